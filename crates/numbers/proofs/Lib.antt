@@ -1,0 +1,4 @@
+pub mod Ages
+pub mod Cases
+pub mod Laws
+pub mod Steps
