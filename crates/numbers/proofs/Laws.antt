@@ -1,5 +1,5 @@
 -- Laws of counting modulo m, over any m: they serve the 24-bit numbers, a ring's slots and any other counter. Assumes nothing.
-use mathlib.Core.Path.{◌≡◌, refl, sym, ap, ◌∙◌}
+use mathlib.Core.Path.{◌≡◌, sym, ap, ◌∙◌}
 use Prim.Native.Nat.{ℕ, ◌+◌, ◌-◌, ◌%◌, ◌≤◌, ◌<◌}
 use native.Mathlib.Nat.{mod-lt, mod-eq_of_lt, mod-add-mod, add-mod-mod, add-mod_right, mod-mod, add_assoc}
 use native.Mathlib.Omega.{arith}

@@ -1,8 +1,12 @@
 -- How the code counts: what it computes from reduced parts is what the definitions say. Assumes nothing.
 use mathlib.Core.Path.{◌≡◌, sym}
-use Prim.Native.Nat.{ℕ, ◌+◌, ◌-◌, ◌%◌}
+use Prim.Native.Nat.{ℕ, ◌+◌, ◌-◌, ◌%◌, ◌<◌}
 use native.Mathlib.Nat.{mod-add-mod, add-mod}
+use native.Mathlib.Omega.{arith}
+use Rattle.std.proofs.lemmas.Int.{ints}
 use Rattle.numbers.specs.Counting.{onward, ahead}
+use Rattle.numbers.specs.Numbers.{modulus}
+use Rattle.numbers.proofs.Laws.{ahead-lt}
 
 pub onward_code : (m p d : ℕ) → (p % m + d % m) % m ≡ onward m p d
 unfolding onward
@@ -11,3 +15,9 @@ onward_code m p d = sym (add-mod p d m)
 pub ahead_code : (m p q : ℕ) → (p % m + (m - q % m)) % m ≡ ahead m p q
 unfolding ahead
 ahead_code m p q = mod-add-mod p m (m - q % m)
+
+-- a 24-bit distance is a number below 2^24, so that as an i32 it is the same number, and less 2^24 it still is one
+pub ahead_24 : (p q : ℕ) → ahead modulus p q < modulus
+ahead_24 = ahead-lt modulus (omega arith)
+
+pub ruleset age_code = (ints, ahead_24)

@@ -1,6 +1,6 @@
 -- The numbers of SDs and of polls: "each counted modulo 2^24 = 16,777,216 and independent; one is never compared with the other".
 -- So each kind has its own functions here too, over the one way of counting.
-use Rattle.std.specs.Prelude.{Bool, cond, ℕ, ◌^◌, ltb, ℤ}
+use Rattle.std.specs.Prelude.{Bool, cond, ℕ, ◌^◌, nat_lt, ℤ}
 use Rattle.numbers.specs.Counting.{onward, ahead, age, older}
 use Rattle.numbers.specs.declared.seq.SeqNo.{SeqNo}
 use Rattle.numbers.specs.declared.seq.MaybeSeqNo.{MaybeSeqNo}
@@ -19,7 +19,7 @@ seq_no n = record { 0 = n }
 
 -- a number below the modulus, or none
 abbrev pub new_seq : ℕ → MaybeSeqNo
-new_seq n = cond (ltb n modulus) (MaybeSeq.Number (seq_no n)) MaybeSeq.TooLarge
+new_seq n = cond (nat_lt n modulus) (MaybeSeq.Number (seq_no n)) MaybeSeq.TooLarge
 
 -- the number d further on than p, and the number after p
 abbrev pub onward_seq : SeqNo → ℕ → SeqNo
@@ -38,7 +38,7 @@ abbrev pub poll_no : ℕ → PollNo
 poll_no n = record { 0 = n }
 
 abbrev pub new_poll : ℕ → MaybePollNo
-new_poll n = cond (ltb n modulus) (MaybePoll.Number (poll_no n)) MaybePoll.TooLarge
+new_poll n = cond (nat_lt n modulus) (MaybePoll.Number (poll_no n)) MaybePoll.TooLarge
 
 abbrev pub onward_poll : PollNo → ℕ → PollNo
 onward_poll p d = poll_no (onward modulus p.0 d)

@@ -1,5 +1,7 @@
 // Numbers counted modulo 2^24 (document 01, "Numbers"): of SDs and of polls. The two kinds are types of their own, and each is compared by its
 // own functions alone. No crate but this one compares, adds to or tests what is inside `.0`.
+#![tactic(auto)]
+
 mod poll;
 mod seq;
 

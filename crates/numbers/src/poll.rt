@@ -1,15 +1,15 @@
 // The numbers of polls, and the age of a stamp.
-ghost use Rattle.std.specs.Prelude.{◌≡◌, ltb};
+ghost use Rattle.std.specs.Prelude.{◌≡◌, nat_lt};
 ghost use Rattle.numbers.specs.Numbers.{modulus, new_poll, onward_poll, next_poll, ahead_poll, age_poll, older_poll};
 
 use crate::MODULUS;
 
 // Any u32 may stand inside, as in a SeqNo.
-#[derive(Drop)]
+#[derive(Clone, Copy)]
 pub struct PollNo(pub u32);
 
 // What `PollNo::new` makes of a u32.
-#[derive(Drop)]
+#[derive(Clone, Copy)]
 pub enum MaybePollNo {
     Number(PollNo),
     TooLarge,
@@ -31,12 +31,13 @@ impl PollNo {
 
     // It is below the modulus (answers 17 and 19 ask it).
     pub fn in_range(self) -> bool
-        ensures { result ≡ ltb self.0 modulus }
+        ensures { result ≡ nat_lt self.0 modulus }
     {
         self.0 < PollNo::MODULUS
     }
 
     // The number d further on.
+    #[tactic(auto, using(crate::proofs::Steps::onward_code))]
     pub fn onward(self, d: u32) -> PollNo
         ensures { result ≡ onward_poll self d }
     {
@@ -51,6 +52,7 @@ impl PollNo {
     }
 
     // How far it is ahead of q.
+    #[tactic(auto, using(crate::proofs::Steps::ahead_code))]
     pub fn ahead(self, q: PollNo) -> u32
         ensures { result ≡ ahead_poll self q }
     {
@@ -58,6 +60,7 @@ impl PollNo {
     }
 
     // The age of the stamp self against a poll: the signed distance from the one to the other, -2^23 to 2^23 - 1.
+    #[tactic(auto, using(crate::proofs::Steps::age_code), unfolding(crate::specs::Counting::age))]
     pub fn age(self, poll: PollNo) -> i32
         ensures { result ≡ age_poll self poll }
     {
@@ -70,6 +73,7 @@ impl PollNo {
     }
 
     // The age of the stamp self against a poll is above 0, so that no caller has to reason about signed words.
+    #[tactic(auto, using(std::proofs::lemmas::Int::ints), unfolding(crate::specs::Counting::older))]
     pub fn older(self, poll: PollNo) -> bool
         ensures { result ≡ older_poll self poll }
     {
