@@ -17,7 +17,7 @@ unfolding ahead
 ahead_code m p q = mod-add-mod p m (m - q % m)
 
 -- a 24-bit distance is a number below 2^24, so that as an i32 it is the same number, and less 2^24 it still is one
-pub ahead_24 : (p q : ℕ) → ahead modulus p q < modulus
-ahead_24 = ahead-lt modulus (omega arith)
+pub ahead-lt_modulus : (p q : ℕ) → ahead modulus p q < modulus
+ahead-lt_modulus = ahead-lt modulus (omega arith)
 
-pub ruleset age_code = (ints, ahead_24)
+pub ruleset age_code = (ints, ahead-lt_modulus)
