@@ -4,7 +4,8 @@
 usage: python3 tools/respell.py [FOLDER]     FOLDER: the top of a checkout; this one, if none is named
 
 Run once, after the kit's port.py, over a checkout of the older spelling. Words are in snake case, a dash joins two names, and a plain word is
-added with `_`. Functions of src/, strings, inputs and outputs keep their names. A second run changes nothing.
+added with `_`. In this repository only clauses, `ghost use` lines, specs/ and proofs/ have these names: no function of src/, no string, input or
+output. A second run changes nothing.
 """
 
 import pathlib
@@ -66,7 +67,7 @@ def collisions(texts):
 
 def main():
     top = pathlib.Path(sys.argv[1] if len(sys.argv) > 1 else pathlib.Path(__file__).resolve().parent.parent)
-    files = [p for p in sorted(top.glob("crates/**/*")) if p.suffix in (".rt", ".antt", ".edit") and "out" not in p.parts]
+    files = [p for p in sorted(top.glob("crates/**/*")) if p.suffix in (".rt", ".antt", ".edit") and "out" not in p.relative_to(top).parts]
     texts = {p: p.read_text(encoding="utf-8") for p in files}
     old = [*DEFINITIONS, *LEMMAS]
     if not any(re.search(r"(?<![\w.'-])" + re.escape(o) + r"(?![\w'-])", t) for o in old for t in texts.values()):
