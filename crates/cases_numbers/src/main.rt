@@ -1,104 +1,99 @@
 // Document 01, "Numbers" and P10, run: distances, numbers further on and ages, at zero, at the wrap and at both ends. A line says what was asked and
-// what came out; the file stdout has what document 01 says. Of an age the line has what it should be, whether it is that, and whether it is above 0.
+// what came out of SD numbers and of poll numbers; the file stdout has what document 01 says. Of an age the line has what it should be, whether it is
+// that, and whether it is above 0.
 #![tactic(auto)]
 
-use numbers::{MaybePollNo, MaybeSeqNo, PollNo, SeqNo};
-use std::io;
+use numbers::{Counted, PollNo, SeqNo};
+use std::{fmt, io};
 
-fn text(rt: &impl Print, s: &str) -> io::Result<()> {
-    print!(rt; "{s}")
+// What `new` made of a word, as a line shows it.
+#[derive(Drop)]
+struct Made<N>(Option<N>);
+
+impl<N: Counted> fmt::Display for Made<N> {
+    fn fmt<W: fmt::Write>(&self, f: &mut fmt::Formatter<W>) -> fmt::Result {
+        match self.0 {
+            Some(p) => write!(f, "{}", p.word()),
+            None => f.write_str("too large"),
+        }
+    }
 }
 
-fn number(rt: &impl Print, n: u32) -> io::Result<()> {
-    print!(rt; " {n}")
-}
-
-fn truth(rt: &impl Print, b: bool) -> io::Result<()> {
-    if b { text(rt, " yes") } else { text(rt, " no") }
+fn yes_no(b: bool) -> &'static str {
+    if b { "yes" } else { "no" }
 }
 
 fn ahead(rt: &impl Print, p: u32, q: u32) -> io::Result<()> {
-    text(rt, "ahead")?;
-    number(rt, p)?;
-    number(rt, q)?;
-    text(rt, ":")?;
-    number(rt, SeqNo(p).ahead(SeqNo(q)))?;
-    number(rt, PollNo(p).ahead(PollNo(q)))?;
-    text(rt, "\n")
+    let sd = SeqNo(p).ahead(SeqNo(q));
+    let poll = PollNo(p).ahead(PollNo(q));
+    println!(rt; "ahead {p} {q}: {sd} {poll}")
 }
 
 fn onward(rt: &impl Print, p: u32, d: u32) -> io::Result<()> {
-    text(rt, "onward")?;
-    number(rt, p)?;
-    number(rt, d)?;
-    text(rt, ":")?;
-    number(rt, SeqNo(p).onward(d).0)?;
-    number(rt, PollNo(p).onward(d).0)?;
-    text(rt, "\n")
+    let sd = SeqNo(p).onward(d).word();
+    let poll = PollNo(p).onward(d).word();
+    println!(rt; "onward {p} {d}: {sd} {poll}")
 }
 
 fn next(rt: &impl Print, p: u32) -> io::Result<()> {
-    text(rt, "next")?;
-    number(rt, p)?;
-    text(rt, ":")?;
-    number(rt, SeqNo(p).next().0)?;
-    number(rt, PollNo(p).next().0)?;
-    text(rt, "\n")
+    let sd = SeqNo(p).next().word();
+    let poll = PollNo(p).next().word();
+    println!(rt; "next {p}: {sd} {poll}")
 }
 
-fn age(rt: &impl Print, stamp: u32, poll: u32, want: i32, words: &str) -> io::Result<()> {
-    text(rt, "age")?;
-    number(rt, stamp)?;
-    number(rt, poll)?;
-    text(rt, words)?;
-    text(rt, ":")?;
-    truth(rt, PollNo(stamp).age(PollNo(poll)) == want)?;
-    truth(rt, PollNo(stamp).older(PollNo(poll)))?;
-    text(rt, "\n")
+fn age(rt: &impl Print, stamp: u32, poll: u32, want: i32) -> io::Result<()> {
+    let as_wanted = yes_no(PollNo(stamp).age(PollNo(poll)) == want);
+    let older = yes_no(PollNo(stamp).older(PollNo(poll)));
+    println!(rt; "age {stamp} {poll} {want}: {as_wanted} {older}")
 }
 
 fn new(rt: &impl Print, n: u32) -> io::Result<()> {
-    text(rt, "new")?;
-    number(rt, n)?;
-    text(rt, ":")?;
-    truth(rt, SeqNo(n).in_range())?;
-    truth(rt, PollNo(n).in_range())?;
-    match SeqNo::new(n) {
-        MaybeSeqNo::Number(p) => number(rt, p.0)?,
-        MaybeSeqNo::TooLarge => text(rt, " too large")?,
-    }
-    match PollNo::new(n) {
-        MaybePollNo::Number(p) => number(rt, p.0)?,
-        MaybePollNo::TooLarge => text(rt, " too large")?,
-    }
-    text(rt, "\n")
+    let sd = yes_no(SeqNo(n).in_range());
+    let poll = yes_no(PollNo(n).in_range());
+    println!(rt;
+        "new {n}: {sd} {poll} {} {}",
+        Made(SeqNo::new(n)),
+        Made(PollNo::new(n))
+    )
 }
 
 fn main(rt: HostRuntime) -> io::Result<()> {
-    ahead(&rt, 0, 0)?;
-    ahead(&rt, 7, 3)?;
-    ahead(&rt, 3, 7)?;
-    ahead(&rt, 0, 16_777_215)?;
-    ahead(&rt, 16_777_215, 0)?;
-    ahead(&rt, 16_777_216, 0)?;
-    ahead(&rt, 4_294_967_295, 16_777_217)?;
-    onward(&rt, 5, 0)?;
-    onward(&rt, 16_777_214, 3)?;
-    onward(&rt, 16_777_215, 16_777_215)?;
-    onward(&rt, 4_294_967_295, 4_294_967_295)?;
-    next(&rt, 0)?;
-    next(&rt, 16_777_215)?;
-    next(&rt, 4_294_967_295)?;
-    age(&rt, 16_777_215, 0, 1, " 1")?;
-    age(&rt, 0, 16_777_215, -1, " -1")?;
-    age(&rt, 9, 9, 0, " 0")?;
-    age(&rt, 0, 8_388_607, 8_388_607, " 8388607")?;
-    age(&rt, 0, 8_388_608, -8_388_608, " -8388608")?;
-    age(&rt, 8_388_608, 0, -8_388_608, " -8388608")?;
-    age(&rt, 8_388_609, 0, 8_388_607, " 8388607")?;
-    age(&rt, 16_777_000, 784, 1_000, " 1000")?;
-    new(&rt, 0)?;
-    new(&rt, 16_777_215)?;
-    new(&rt, 16_777_216)?;
-    new(&rt, 4_294_967_295)
+    for (p, q) in [
+        (0, 0),
+        (7, 3),
+        (3, 7),
+        (0, 16_777_215),
+        (16_777_215, 0),
+        (16_777_216, 0),
+        (4_294_967_295, 16_777_217),
+    ] {
+        ahead(&rt, p, q)?;
+    }
+    for (p, d) in [
+        (5, 0),
+        (16_777_214, 3),
+        (16_777_215, 16_777_215),
+        (4_294_967_295, 4_294_967_295),
+    ] {
+        onward(&rt, p, d)?;
+    }
+    for p in [0, 16_777_215, 4_294_967_295] {
+        next(&rt, p)?;
+    }
+    for (stamp, poll, want) in [
+        (16_777_215, 0, 1),
+        (0, 16_777_215, -1),
+        (9, 9, 0),
+        (0, 8_388_607, 8_388_607),
+        (0, 8_388_608, -8_388_608),
+        (8_388_608, 0, -8_388_608),
+        (8_388_609, 0, 8_388_607),
+        (16_777_000, 784, 1_000),
+    ] {
+        age(&rt, stamp, poll, want)?;
+    }
+    for n in [0, 16_777_215, 16_777_216, 4_294_967_295] {
+        new(&rt, n)?;
+    }
+    Ok(())
 }

@@ -1,6 +1,5 @@
 -- P10 of document 01, and what an age is at zero and at both ends, by the definitions. Assumes nothing.
-use mathlib.Core.Path.{◌≡◌, refl}
-use lib.IntN.{pos, negsuc}
+use Rattle.std.proofs.Common.{◌≡◌, refl, pos, negsuc}
 use Rattle.numbers.specs.Counting.{age, ahead}
 use Rattle.numbers.specs.Numbers.{poll_no, age_poll}
 

@@ -1,8 +1,6 @@
 -- How the code counts: what it computes from reduced parts is what the definitions say. Assumes nothing.
-use mathlib.Core.Path.{◌≡◌, sym}
-use Prim.Native.Nat.{ℕ, ◌+◌, ◌-◌, ◌%◌, ◌<◌}
-use native.Mathlib.Nat.{mod-add-mod, add-mod}
-use native.Mathlib.Omega.{arith}
+use Rattle.std.proofs.Common.{◌≡◌, ℕ, ◌+◌, ◌-◌, ◌%◌, ◌<◌, sym, arith}
+use Rattle.std.proofs.Math.Nat.{mod-add-mod, add-mod}
 use Rattle.std.proofs.lemmas.Int.{ints}
 use Rattle.numbers.specs.Counting.{onward, ahead}
 use Rattle.numbers.specs.Numbers.{modulus}

@@ -2,11 +2,13 @@
 // own functions alone. No crate but this one compares, adds to or tests what is inside `.0`.
 #![tactic(auto)]
 
+mod counted;
 mod poll;
 mod seq;
 
-pub use poll::{MaybePollNo, PollNo};
-pub use seq::{MaybeSeqNo, SeqNo};
+pub use counted::Counted;
+pub use poll::PollNo;
+pub use seq::SeqNo;
 
 // 2^24, the modulus of both kinds.
 const MODULUS: u32 = 16_777_216;
