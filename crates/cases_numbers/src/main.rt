@@ -8,9 +8,9 @@ use std::{fmt, io};
 
 // What `new` made of a word, as a line shows it.
 #[derive(Drop)]
-struct Made<N>(Option<N>);
+struct NumberOrTooLarge<N>(Option<N>);
 
-impl<N: Counted> fmt::Display for Made<N> {
+impl<N: Counted> fmt::Display for NumberOrTooLarge<N> {
     fn fmt<W: fmt::Write>(&self, f: &mut fmt::Formatter<W>) -> fmt::Result {
         match self.0 {
             Some(p) => write!(f, "{}", p.word()),
@@ -23,37 +23,37 @@ fn yes_no(b: bool) -> &'static str {
     if b { "yes" } else { "no" }
 }
 
-fn ahead(rt: &impl Print, p: u32, q: u32) -> io::Result<()> {
+fn print_ahead(rt: &impl Print, p: u32, q: u32) -> io::Result<()> {
     let sd = SeqNo(p).ahead(SeqNo(q));
     let poll = PollNo(p).ahead(PollNo(q));
     println!(rt; "ahead {p} {q}: {sd} {poll}")
 }
 
-fn onward(rt: &impl Print, p: u32, d: u32) -> io::Result<()> {
-    let sd = SeqNo(p).onward(d).word();
-    let poll = PollNo(p).onward(d).word();
+fn print_onward(rt: &impl Print, p: u32, d: u32) -> io::Result<()> {
+    let sd = SeqNo(p).onward(d).0;
+    let poll = PollNo(p).onward(d).0;
     println!(rt; "onward {p} {d}: {sd} {poll}")
 }
 
-fn next(rt: &impl Print, p: u32) -> io::Result<()> {
-    let sd = SeqNo(p).next().word();
-    let poll = PollNo(p).next().word();
+fn print_next(rt: &impl Print, p: u32) -> io::Result<()> {
+    let sd = SeqNo(p).next().0;
+    let poll = PollNo(p).next().0;
     println!(rt; "next {p}: {sd} {poll}")
 }
 
-fn age(rt: &impl Print, stamp: u32, poll: u32, want: i32) -> io::Result<()> {
+fn print_age(rt: &impl Print, stamp: u32, poll: u32, want: i32) -> io::Result<()> {
     let as_wanted = yes_no(PollNo(stamp).age(PollNo(poll)) == want);
     let older = yes_no(PollNo(stamp).older(PollNo(poll)));
     println!(rt; "age {stamp} {poll} {want}: {as_wanted} {older}")
 }
 
-fn new(rt: &impl Print, n: u32) -> io::Result<()> {
+fn print_new(rt: &impl Print, n: u32) -> io::Result<()> {
     let sd = yes_no(SeqNo(n).in_range());
     let poll = yes_no(PollNo(n).in_range());
     println!(rt;
         "new {n}: {sd} {poll} {} {}",
-        Made(SeqNo::new(n)),
-        Made(PollNo::new(n))
+        NumberOrTooLarge(SeqNo::new(n)),
+        NumberOrTooLarge(PollNo::new(n))
     )
 }
 
@@ -67,7 +67,7 @@ fn main(rt: HostRuntime) -> io::Result<()> {
         (16_777_216, 0),
         (4_294_967_295, 16_777_217),
     ] {
-        ahead(&rt, p, q)?;
+        print_ahead(&rt, p, q)?;
     }
     for (p, d) in [
         (5, 0),
@@ -75,10 +75,10 @@ fn main(rt: HostRuntime) -> io::Result<()> {
         (16_777_215, 16_777_215),
         (4_294_967_295, 4_294_967_295),
     ] {
-        onward(&rt, p, d)?;
+        print_onward(&rt, p, d)?;
     }
     for p in [0, 16_777_215, 4_294_967_295] {
-        next(&rt, p)?;
+        print_next(&rt, p)?;
     }
     for (stamp, poll, want) in [
         (16_777_215, 0, 1),
@@ -90,10 +90,10 @@ fn main(rt: HostRuntime) -> io::Result<()> {
         (8_388_609, 0, 8_388_607),
         (16_777_000, 784, 1_000),
     ] {
-        age(&rt, stamp, poll, want)?;
+        print_age(&rt, stamp, poll, want)?;
     }
     for n in [0, 16_777_215, 16_777_216, 4_294_967_295] {
-        new(&rt, n)?;
+        print_new(&rt, n)?;
     }
     Ok(())
 }

@@ -1,8 +1,13 @@
 -- Laws of ages, over any modulus: what an age is between its ends, and when it is above 0. Assumes nothing.
 use Rattle.std.proofs.Common.{◌≡◌, ℕ, ◌+◌, ◌-◌, ◌/◌, ◌≤◌, ◌<◌, true, false, pos, ◌-ℤ◌, arith}
+use Rattle.std.specs.Prelude.{int_lt}
 use Rattle.std.proofs.lemmas.Int.{ints}
 use Rattle.numbers.specs.Counting.{onward, age, older}
 use Rattle.numbers.proofs.Laws.{onward_round, ahead-onward}
+
+-- a distance short of the modulus, less the modulus, is not above 0
+below : (d m : ℕ) → d < m → int_lt (pos 0) (pos d -ℤ pos m) ≡ false
+below d m h = grind (arith, ints)
 
 module _ (m : ℕ) (two : 2 ≤ m) (b : ℕ) where
   -- a poll up to half a round less one after the stamp: the age is the polls between

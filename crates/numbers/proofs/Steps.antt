@@ -1,7 +1,7 @@
--- How the code counts: what it computes from reduced parts is what the definitions say. Assumes nothing.
+-- How the code counts: what it computes from reduced parts is what the definitions say. (The library's `add-mod` and `mod-add-mod`, over the
+-- definitions: without these two the check does not find them there.) Assumes nothing.
 use Rattle.std.proofs.Common.{◌≡◌, ℕ, ◌+◌, ◌-◌, ◌%◌, ◌<◌, sym, arith}
 use Rattle.std.proofs.Math.Nat.{mod-add-mod, add-mod}
-use Rattle.std.proofs.lemmas.Int.{ints}
 use Rattle.numbers.specs.Counting.{onward, ahead}
 use Rattle.numbers.specs.Numbers.{modulus}
 use Rattle.numbers.proofs.Laws.{ahead-lt}
@@ -18,4 +18,4 @@ ahead_code m p q = mod-add-mod p m (m - q % m)
 pub ahead-lt_modulus : (p q : ℕ) → ahead modulus p q < modulus
 ahead-lt_modulus = ahead-lt modulus (omega arith)
 
-pub ruleset age_code = (ints, ahead-lt_modulus)
+pub ruleset age_code = ahead-lt_modulus

@@ -1,6 +1,6 @@
 // One way of counting for each kind of number.
-ghost use Rattle.std.specs.Prelude.{◌≡◌, ℕ, nat_lt};
-ghost use Rattle.numbers.specs.Counted.{Kind, IsCounted, new_in, onward_in, next_in, ahead_in};
+ghost use Rattle.std.specs.Prelude.{◌≡◌, ℕ};
+ghost use Rattle.numbers.specs.Counted.{Kind, IsCounted, new_in, is_in_range, onward_in, next_in, ahead_in};
 
 /// A kind of number, counted modulo a constant of its own. Any u32 may stand inside, since a caller's memory may hold any: `in_range` tells whether
 /// it is a number. Two kinds are two types, so neither is compared with the other.
@@ -13,11 +13,12 @@ pub trait Counted: Copy {
 
     const MODULUS: u32;
 
-    /// The number in which this word stands, whatever it is.
+    /// The number that holds this word; every word is taken.
+    // No From: each kind would have two impls for these two functions, and `SeqNo::from(n)` would read like `new`, which refuses some words.
     fn from_word(word: u32) -> Self
         ensures { result ≡ kind.from_word word };
 
-    /// The word that stands in it.
+    /// The word inside.
     fn word(self) -> u32
         ensures { result ≡ kind.word self };
 
@@ -38,7 +39,7 @@ pub trait Counted: Copy {
 
     /// It is below the modulus (answers 17 and 19 ask it).
     final fn in_range(self) -> bool
-        ensures { result ≡ nat_lt (kind.word self) kind.modulus }
+        ensures { result ≡ is_in_range kind self }
     {
         self.word() < Self::MODULUS
     }

@@ -5,10 +5,10 @@ ghost use Rattle.numbers.specs.Numbers.{modulus, poll_nos, age_poll, older_poll}
 use crate::{Counted, MODULUS};
 
 /// The number of a poll, and the stamp that a message takes from one.
-#[derive(Clone, Copy)]
+#[derive(Clone, Copy, Debug)]
 pub struct PollNo(pub u32);
 
-// Like that of `SeqNo` but for the type, which says why.
+// As `SeqNo`'s impl but for the type; seq.rt says why both are written out, and why there is no `==`.
 impl Counted for PollNo {
     ghost kind = { poll_nos };
 
@@ -42,7 +42,7 @@ impl PollNo {
     }
 
     /// The age of the stamp self against a poll is above 0, so that no caller has to reason about signed words.
-    #[tactic(auto, using(std::proofs::lemmas::Int::ints), unfolding(crate::specs::Counting::older))]
+    #[tactic(auto, unfolding(crate::specs::Counting::older))]
     pub fn older(self, poll: PollNo) -> bool
         ensures { result ≡ older_poll self poll }
     {

@@ -4,10 +4,12 @@ ghost use Rattle.numbers.specs.Numbers.{modulus, seq_nos};
 use crate::{Counted, MODULUS};
 
 /// The number of an SD.
-#[derive(Clone, Copy)]
+// No `==`, no order and no `Hash`: they would compare the words inside, and the words 0 and 2^24 count alike.
+#[derive(Clone, Copy, Debug)]
 pub struct SeqNo(pub u32);
 
-// Like that of `PollNo` but for the type: document 01 names two types, SeqNo(u32) and PollNo(u32), and no macro may write an impl.
+// Written out here and for `PollNo`: the two are types of their own, since an SD number is never compared with a poll number, a constant with a
+// value in its trait can have no ghost member of its name, and `rt ci` refuses an impl that a macro writes.
 impl Counted for SeqNo {
     ghost kind = { seq_nos };
 
