@@ -1,0 +1,6 @@
+pub mod Answers
+pub mod Cases
+pub mod Decoding
+pub mod Encoding
+pub mod Layout
+pub mod RoundTrip
