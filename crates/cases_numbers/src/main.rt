@@ -1,5 +1,5 @@
-// Document 01, "Numbers" and P10, run: distances, numbers further on and ages, at zero, at the wrap and at both ends. A line says what was asked and
-// what came out of SD numbers and of poll numbers; the file stdout has what document 01 says. Of an age the line has what it should be, whether it is
+// "Numbers" of docs/RULES.md and P10, run: distances, numbers further on and ages, at zero, at the wrap and at both ends. A line says what was asked and
+// what came out of SD numbers and of poll numbers; the file stdout has what the rules say. Of an age the line has what it should be, whether it is
 // that, and whether it is above 0.
 #![tactic(auto)]
 

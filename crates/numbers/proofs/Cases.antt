@@ -1,4 +1,4 @@
--- P10 of document 01, and what an age is at zero and at both ends, by the definitions. Assumes nothing.
+-- P10 of the rules, and what an age is at zero and at both ends, by the definitions. Assumes nothing.
 use Rattle.std.proofs.Common.{◌≡◌, refl, pos, negsuc}
 use Rattle.numbers.specs.Counting.{age, ahead}
 use Rattle.numbers.specs.Numbers.{poll_no, age_poll}

@@ -1,4 +1,4 @@
--- The numbers of SDs and of polls: "each counted modulo 2^24 = 16,777,216 and independent; one is never compared with the other".
+-- "SD numbers and poll numbers are each counted modulo 2^24 = 16,777,216 and are independent; one is never compared with the other."
 -- So each is a kind of its own: what is counted in the one doesn't type in the other.
 use Rattle.std.specs.Prelude.{Bool, ℕ, ◌^◌, ℤ}
 use Rattle.numbers.specs.Counting.{age, older}

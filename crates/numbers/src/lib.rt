@@ -1,4 +1,4 @@
-// Numbers counted modulo 2^24 (document 01, "Numbers"): of SDs and of polls. The two kinds are types of their own, and each is compared by its
+// Numbers counted modulo 2^24 (docs/RULES.md, "Numbers"): of SDs and of polls. The two kinds are types of their own, and each is compared by its
 // own functions alone. No crate but this one compares, adds to or tests the word inside, by `.0` or `word()`.
 #![tactic(auto)]
 

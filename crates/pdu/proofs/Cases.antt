@@ -1,4 +1,4 @@
--- P1 to P6 of document 01 hold by the definitions.
+-- P1 to P6 of the rules hold by the definitions.
 use Rattle.std.proofs.Common.{refl}
 use Rattle.pdu.specs.Layout.{sd_bytes, poll_bytes, stat_bytes, ustat_bytes}
 use Rattle.pdu.specs.Decoding.{decode_of}

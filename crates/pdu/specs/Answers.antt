@@ -1,4 +1,4 @@
--- Document 01's table of answers, but for 0 (done) and 18 (a step): why a call is refused.
+-- The table of answers (docs/RULES.md, "Answers"), but for 0 (done) and 18 (a step): why a call is refused.
 use Rattle.std.specs.Prelude.{ℕ}
 use Rattle.pdu.specs.declared.refusal.Refusal.{Refusal}
 use Rattle.pdu.specs.declared.refusal.Refusal.TheVariants.{Length, TypeZero, OtherType, ErrorQ, ErrorR, ErrorS, ErrorT, NoRoom, LongMessage, Full, NothingToSend, NoCredit, PollFirst, PollsOutstanding, Stopped, NothingInOrder, Rules, NumberTooLarge}

@@ -1,4 +1,4 @@
--- The first six of document 01's table of cases: bytes, and what they say. P7 to P10 are of other crates.
+-- The first six of the cases of docs/RULES.md: bytes, and what they say. P7 to P10 are of other crates.
 use Rattle.std.specs.Prelude.{◌≡◌, ℕ, [], ◌∷◌}
 use Rattle.numbers.specs.Numbers.{seq_no, poll_no}
 use Rattle.pdu.specs.Layout.{sd_bytes, poll_bytes, stat_bytes, ustat_bytes}

@@ -1,4 +1,4 @@
--- What the decoder gives (document 01, "PDU layouts" and "Answers").
+-- What the decoder gives (docs/RULES.md, "PDU layouts" and "Answers").
 use Rattle.std.specs.Prelude.{ℕ, ◌||◌, not, ◌+◌, ◌-◌, ◌*◌, ◌/◌, ◌%◌, ◌==◌, nat_lt, nat_le, if◌then◌else◌, List, map, length, slice_index, Result, Ok, Err}
 use Rattle.std.specs.List.{range_with_len}
 use Rattle.numbers.specs.Numbers.{seq_no, poll_no}

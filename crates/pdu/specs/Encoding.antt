@@ -1,4 +1,4 @@
--- What the encoders give: "Encoding: 17 for k, 19, 9, 8" (document 01, "Answers").
+-- What the encoders give: "Encoding: 17 for k, 19, 9, 8" (docs/RULES.md, "Answers").
 use Rattle.std.specs.Prelude.{ℕ, Bool, not, nat_lt, if◌then◌else◌, List, ◌++◌, length, drop, Option, Some, None, Result, Ok, Err}
 use Rattle.std.specs.List.{list_all}
 use Rattle.numbers.specs.Numbers.{modulus}

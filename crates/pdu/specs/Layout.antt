@@ -1,4 +1,4 @@
--- PDU layouts (document 01): "All words are 4 bytes, most significant byte first. The last word starts with one byte whose low four bits are the
+-- PDU layouts (docs/RULES.md): "All words are 4 bytes, most significant byte first. The last word starts with one byte whose low four bits are the
 -- type: SD 1000, POLL 1010, STAT 1011, USTAT 1100."
 use Rattle.std.specs.Prelude.{ℕ, ◌+◌, ◌-◌, ◌*◌, ◌/◌, ◌%◌, ◌^◌, List, [], ◌∷◌, ◌++◌, length, take, drop, slice_index, replicate}
 use Rattle.std.specs.List.{flat_map}

@@ -1,4 +1,4 @@
-// PDUs: bytes to fields and back (document 01, "PDU layouts"; Q.2110, 7.1 and 7.2). No other crate knows that bytes have an order.
+// PDUs: bytes to fields and back (docs/RULES.md, "PDU layouts"; Q.2110, 7.1 and 7.2). No other crate knows that bytes have an order.
 #![tactic(auto)]
 
 mod bytes;

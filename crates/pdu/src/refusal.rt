@@ -1,7 +1,7 @@
 ghost use Rattle.std.specs.Prelude.{◌≡◌};
 ghost use Rattle.pdu.specs.Answers.{refusal_no};
 
-/// Why a call is refused: document 01's answers but for 0 (done) and 18 (an SD outside credit, which is a step).
+/// Why a call is refused: the answers of docs/RULES.md but for 0 (done) and 18 (an SD outside credit, which is a step).
 #[derive(Clone, Copy, Debug, PartialEq, Eq)]
 pub enum Refusal {
     /// Error U: a length that no PDU, or none of this type, has, or information over k.
