@@ -1,0 +1,27 @@
+ghost use Rattle.std.specs.Prelude.{◌≡◌};
+ghost use Rattle.end.specs.Rules.{end_keeps};
+
+use crate::{Params, Receiver, Transmitter};
+
+/// One end of a connection, with the memory that is lent to it.
+pub struct End<'a> {
+    pub params: Params,
+    /// 1 while the connection runs, and 0 when it has stopped.
+    pub running: u32,
+    pub vt: Transmitter<'a>,
+    pub vr: Receiver<'a>,
+}
+
+impl End<'_> {
+    /// Parameters, state and lent memory keep the rules: if not, the answer is 17.
+    pub fn keeps_rules(&self) -> bool
+        ensures { result ≡ end_keeps self.now }
+    {
+        self.params.keep_rules()
+            && self.vt.has_room(self.params)
+            && self.vr.has_room(self.params)
+            && self.running <= 1
+            && self.vt.keeps_rules(self.params)
+            && self.vr.keeps_rules(self.params)
+    }
+}
