@@ -1,6 +1,7 @@
 // One end of a connection: its parameters, its state, the memory that a maker lends it, and the rules that all of it keeps (answer 17).
 #![tactic(auto)]
 
+mod opening;
 mod params;
 mod receiver;
 mod ring;
