@@ -1,8 +1,10 @@
 -- Answer 17: "the parameters or the lent state break a rule of this page". Each test stands beside its words in docs/RULES.md, "17 checks".
-use Rattle.std.specs.Prelude.{ℕ, Bool, ◌&&◌, ◌||◌, not, ◌*◌, ◌%◌, ◌==◌, nat_lt, nat_le, if◌then◌else◌, List, length, take}
+use Rattle.std.specs.Prelude.{ℕ, Bool, ◌&&◌, ◌||◌, not, ◌*◌, ◌%◌, ◌==◌, nat_lt, nat_le, if◌then◌else◌, List, length, take, Result, Ok, Err}
 use Rattle.std.specs.List.{list_all, enumerate_from, zip}
 use Rattle.numbers.specs.Numbers.{seq_nos, poll_nos}
 use Rattle.numbers.specs.Counted.{next_in, ahead_in, is_in_range}
+use Rattle.pdu.specs.declared.refusal.Refusal.{Refusal}
+use Rattle.pdu.specs.declared.refusal.Refusal.TheVariants.{Rules, Stopped}
 use Rattle.end.specs.Ring.{place}
 use Rattle.end.specs.declared.params.Params.{Params}
 use Rattle.end.specs.declared.transmitter.Kept.{Kept}
@@ -97,3 +99,7 @@ end_keeps e =
     && nat_le e.running 1
     && vt_keeps e.params e.vt
     && vr_keeps e.params e.vr
+
+-- "17, 15": what stands first in the order of every call but opening and taking
+abbrev pub works : End → Result Unit Refusal
+works e = if end_keeps e then (if e.running == 0 then Err Stopped else Ok tt) else Err Rules

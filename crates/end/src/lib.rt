@@ -10,5 +10,6 @@ mod whole;
 
 pub use params::Params;
 pub use receiver::Receiver;
+pub use ring::slot_of;
 pub use transmitter::{Kept, Transmitter};
 pub use whole::End;

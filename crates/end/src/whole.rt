@@ -1,7 +1,8 @@
 ghost use Rattle.std.specs.Prelude.{◌≡◌};
-ghost use Rattle.end.specs.Rules.{end_keeps};
+ghost use Rattle.end.specs.Rules.{end_keeps, works};
 
 use crate::{Params, Receiver, Transmitter};
+use pdu::Refusal;
 
 /// One end of a connection, with the memory that is lent to it.
 pub struct End<'a> {
@@ -23,5 +24,18 @@ impl End<'_> {
             && self.running <= 1
             && self.vt.keeps_rules(self.params)
             && self.vr.keeps_rules(self.params)
+    }
+
+    /// What refuses every call but opening and taking: 17, 15.
+    pub fn works(&self) -> Result<(), Refusal>
+        ensures { result ≡ works self.now }
+    {
+        if !self.keeps_rules() {
+            return Err(Refusal::Rules);
+        }
+        if self.running == 0 {
+            return Err(Refusal::Stopped);
+        }
+        Ok(())
     }
 }
