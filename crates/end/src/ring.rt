@@ -15,7 +15,8 @@ pub fn place(slot: usize, first: usize, size: usize) -> usize
 pub fn slot_of(first: u32, i: u32, size: u32) -> usize
     requires first { first < size }
     requires i { i ≤ size }
-    ensures { result ≡ onward size first i }
+    ensures slot { result ≡ onward size first i }
+    ensures below { result < size }
 {
     let slot = first as usize + i as usize;
     if slot < size as usize { slot } else { slot - size as usize }

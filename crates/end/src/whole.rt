@@ -1,5 +1,6 @@
-ghost use Rattle.std.specs.Prelude.{◌≡◌};
+ghost use Rattle.std.specs.Prelude.{◌≡◌, OnOk};
 ghost use Rattle.end.specs.Rules.{end_keeps, works};
+ghost use Rattle.end.specs.Ready.{IsReady};
 
 use crate::{Params, Receiver, Transmitter};
 use pdu::Refusal;
@@ -27,8 +28,10 @@ impl End<'_> {
     }
 
     /// What refuses every call but opening and taking: 17, 15.
+    #[tactic(auto, using(crate::proofs::Readiness::ready))]
     pub fn works(&self) -> Result<(), Refusal>
-        ensures { result ≡ works self.now }
+        ensures answer { result ≡ works self.now }
+        ensures ready { OnOk result (IsReady self.now) }
     {
         if !self.keeps_rules() {
             return Err(Refusal::Rules);

@@ -1,0 +1,7 @@
+// What the transmitter does in State 10: submit, send, poll (docs/RULES.md, "Steps of State 10").
+#![tactic(auto)]
+
+mod store;
+mod submitting;
+
+pub use submitting::submit;
