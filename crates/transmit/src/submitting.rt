@@ -1,5 +1,5 @@
-ghost use Rattle.std.specs.Prelude.{◌≡◌, ◌<◌, ◌≤◌, length, IsTrue};
-ghost use Rattle.end.specs.Rules.{vt_room};
+ghost use Rattle.std.specs.Prelude.{◌≡◌, ◌<◌, ◌≤◌, length};
+ghost use Rattle.end.specs.Ready.{IsInRange, IsReadyVt};
 ghost use Rattle.transmit.specs.Submit.{keep_message, submit_answer, submitted};
 
 use crate::store::{put_length, put_message};
@@ -7,13 +7,12 @@ use end::{End, Params, Transmitter, slot_of};
 use pdu::Refusal;
 
 // Keeps the message at the end.
+#[tactic(auto, using(crate::proofs::Stores::room))]
 fn keep(v: &mut Transmitter, p: Params, message: &[u8])
-    requires room { IsTrue (vt_room p v.old) }
-    requires first { v.old.first < p.keep }
-    requires kept { v.old.kept < p.keep }
+    requires params { IsInRange p }
+    requires ready { IsReadyVt p v.old }
+    requires free { v.old.kept < p.keep }
     requires short { length message.now ≤ p.longest }
-    requires few { p.keep ≤ 1024 }
-    requires longest { p.longest ≤ 4096 }
     ensures { v.new ≡ keep_message p message.now v.old }
 {
     let slot = slot_of(v.first, v.kept, p.keep);
