@@ -103,3 +103,8 @@ end_keeps e =
 -- "17, 15": what stands first in the order of every call but opening and taking
 abbrev pub works : End → Result Unit Refusal
 works e = if end_keeps e then (if e.running == 0 then Err Stopped else Ok tt) else Err Rules
+
+-- a call's answer: what refuses it first, or else this
+abbrev pub unless_refused : {T : Type 0} → Result Unit Refusal → Result T Refusal → Result T Refusal
+unless_refused (Ok u) answer = answer
+unless_refused (Err e) answer = Err e

@@ -4,7 +4,7 @@ use Rattle.numbers.specs.Counting.{onward}
 use Rattle.pdu.specs.Layout.{write_at}
 use Rattle.pdu.specs.declared.refusal.Refusal.{Refusal}
 use Rattle.pdu.specs.declared.refusal.Refusal.TheVariants.{LongMessage, Full}
-use Rattle.end.specs.Rules.{works}
+use Rattle.end.specs.Rules.{works, unless_refused}
 use Rattle.end.specs.declared.params.Params.{Params}
 use Rattle.end.specs.declared.transmitter.Transmitter.{Transmitter}
 use Rattle.end.specs.declared.whole.End.{End}
@@ -28,7 +28,7 @@ submit_refusal e message =
     else Ok tt
 
 abbrev pub submit_answer : End → List ℕ → Result Unit Refusal
-submit_answer e message = if is_ok (works e) then submit_refusal e message else works e
+submit_answer e message = unless_refused (works e) (submit_refusal e message)
 
 abbrev pub submitted : End → List ℕ → End
 submitted e message = if is_ok (submit_answer e message) then record e { vt = keep_message e.params message e.vt } else e
