@@ -1,3 +1,4 @@
 pub mod Clearing
 pub mod Readiness
+pub mod Rings
 pub mod Slots

@@ -2,6 +2,7 @@
 #![tactic(auto)]
 
 mod polling;
+mod sending;
 mod store;
 mod submitting;
 

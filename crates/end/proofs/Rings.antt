@@ -1,0 +1,46 @@
+-- What 17 says of one message: the rule of its entry, by its place and by its slot.
+use Rattle.std.proofs.Common.{◌≡◌, ℕ, ◌+◌, ◌-◌, ◌%◌, ◌<◌, ◌≤◌, ◌⊎◌, inl, inr, List, length, take, get_or, Bool, true, sym, ap, ◌∙◌, refl, arith, le-leb, lt-ltb, ltb-true, leb-true, zero-add}
+use Rattle.std.proofs.lemmas.Bool.{cases_lt, lt-leb}
+use Rattle.std.proofs.lemmas.List.{get_or-take, length-take-le}
+use Rattle.std.proofs.lemmas.List.Sums.{AllPass-from_list_all}
+use Rattle.std.proofs.lemmas.List.FromFn.{length-enumerate_from, get_or-enumerate_from}
+use Rattle.std.proofs.lemmas.Bool.Decides.{nat_tests}
+use Rattle.std.specs.List.{enumerate_from}
+use Rattle.numbers.specs.Counting.{onward}
+use Rattle.end.specs.Ring.{place}
+use Rattle.end.specs.Rules.{sent, entry_keeps, entries_keep}
+use Rattle.end.specs.Ready.{IsReadyVt}
+use Rattle.end.specs.declared.params.Params.{Params}
+use Rattle.end.specs.declared.transmitter.Kept.{Kept}
+use Rattle.end.specs.declared.transmitter.Transmitter.{Transmitter}
+use Rattle.end.proofs.Slots.{slot_below, slot_past}
+use Rattle.numbers.proofs.Laws.{onward-lt}
+
+-- the message in the slot of message i is message i
+pub place-onward : (size first i : ℕ) → first < size → i < size → place first size (onward size first i) ≡ i
+place-onward size first i h k = go (cases_lt (first + i) size)
+  where
+    go : ((first + i < size) ⊎ (size ≤ first + i)) → place first size (onward size first i) ≡ i
+    go (inl l) = rw (← slot_below size first i l, le-leb first (first + i) (omega arith)) (omega arith)
+    go (inr l) = rw (← slot_past size first i l h (omega arith), lt-leb first (first + i - size) (omega arith)) (omega arith)
+
+-- each entry of a ring keeps the rule of its message
+pub entry_at : (k sent kept first : ℕ) (ring : List Kept) (slot : ℕ) (d : Kept) → entries_keep k sent kept first ring ≡ true → slot < length ring → entry_keeps k sent kept (place first (length ring) slot) (get_or ring slot d) ≡ true
+entry_at k sent kept first ring slot d e h =
+    let all = AllPass-from_list_all (λ m. entry_keeps k sent kept (place first (length ring) m.0) m.1) (enumerate_from 0 ring) e slot (0, d) (omega (arith, length-enumerate_from 0 ring)) in
+    rw (get_or-enumerate_from 0 ring slot (0, d) h, zero-add slot) at all
+
+-- the entry of message i of a transmitter that keeps the rules
+pub entry_rule : (p : Params) (v : Transmitter) (i : ℕ) (d : Kept) → IsReadyVt p v → i < p.keep → entry_keeps p.longest (sent v) v.kept i (get_or v.entries.now (onward p.keep v.first i) d) ≡ true
+entry_rule p v i d ready h =
+    let slot = onward p.keep v.first i in
+    let below : slot < p.keep = onward-lt p.keep (omega arith) v.first i in
+    let long : length (take p.keep v.entries.now) ≡ p.keep = length-take-le p.keep v.entries.now ready.entries_long in
+    let rule = entry_at p.longest (sent v) v.kept v.first (take p.keep v.entries.now) slot d ready.each (omega arith) in
+    rw (long, place-onward p.keep v.first i ready.first h, get_or-take p.keep v.entries.now slot d below) at rule
+
+pub entry_short : (p : Params) (v : Transmitter) (i : ℕ) (d : Kept) → IsReadyVt p v → i < v.kept → (get_or v.entries.now (onward p.keep v.first i) d).length ≤ p.longest
+entry_short p v i d ready h =
+    let kept = ready.kept in
+    let rule = entry_rule p v i d ready (omega arith) in
+    grind (arith, nat_tests)
