@@ -1,6 +1,7 @@
 -- A change of one entry is a write to its slot.
 use Rattle.std.proofs.Common.{◌≡◌, ℕ, zero, suc, ◌<◌, List, [], ◌∷◌, length, get_or, set, ◌+◌, ◌*◌, ◌^◌, ◌≤◌, sym, ap, refl, arith, mul-le-mul_right, add-one, suc-mul}
 use Rattle.std.proofs.lemmas.Nat.{mul-le}
+use Rattle.end.proofs.Rings.{entry_short}
 use Rattle.transmit.specs.Store.{change_at, with_length}
 use Rattle.end.specs.declared.transmitter.Kept.{Kept}
 
@@ -23,3 +24,5 @@ slot_room slot size k n long a b c d e =
     (omega arith, omega arith)
 
 pub ruleset room = slot_room
+
+pub ruleset messages = (slot_room, entry_short)
