@@ -3,6 +3,8 @@ use Rattle.std.proofs.Common.{◌≡◌, ℕ, zero, suc, ◌<◌, List, [], ◌�
 use Rattle.std.proofs.lemmas.Nat.{mul-le}
 use Rattle.end.proofs.Rings.{entry_short}
 use Rattle.transmit.specs.Store.{change_at, with_length}
+use Rattle.transmit.specs.Sending.{stamped}
+use Rattle.numbers.specs.declared.poll.PollNo.{PollNo}
 use Rattle.end.specs.declared.transmitter.Kept.{Kept}
 
 pub change_at-set : {X : Type 0} (f : X → X) (i : ℕ) (xs : List X) (d : X) → i < length xs → change_at f i xs ≡ set xs i (f (get_or xs i d))
@@ -13,7 +15,10 @@ change_at-set f (suc i) (x ∷ xs) d h = ap (λ ys. x ∷ ys) (change_at-set f i
 pub length_set : (n i : ℕ) (xs : List Kept) (d : Kept) → i < length xs → set xs i (with_length n (get_or xs i d)) ≡ change_at (with_length n) i xs
 length_set n i xs d h = sym (change_at-set (with_length n) i xs d h)
 
-pub ruleset changes = length_set
+pub stamp_set : (ps : PollNo) (i : ℕ) (xs : List Kept) (d : Kept) → i < length xs → set xs i (stamped ps (get_or xs i d)) ≡ change_at (stamped ps) i xs
+stamp_set ps i xs d h = sym (change_at-set (stamped ps) i xs d h)
+
+pub ruleset changes = (length_set, stamp_set)
 
 -- a message of at most k bytes lies within its slot, and a slot within the store
 pub slot_room : (slot size k n long : ℕ) → slot < size → size ≤ 1024 → k ≤ 4096 → n ≤ k → size * k ≤ long → (slot * k + n ≤ long) × (slot * k < 2 ^ 64)

@@ -19,8 +19,8 @@ poll_pdu e = poll_bytes (next_in poll_nos e.vt.ps).0 e.vt.s.0
 
 abbrev pub poll_answer : End → List ℕ → Result ℕ Refusal
 poll_answer e out = unless_refused (works e) (
-  if outstanding e.vt == 8388607 then Err PollsOutstanding
-  else encoded None (poll_pdu e) out)
+    if outstanding e.vt == 8388607 then Err PollsOutstanding
+    else encoded None (poll_pdu e) out)
 
 abbrev pub polled : End → List ℕ → End
 polled e out = if is_ok (poll_answer e out) then record e { vt = poll_once e.vt } else e

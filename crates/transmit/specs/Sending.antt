@@ -59,7 +59,7 @@ abbrev pub send_once : Params → ℕ → Transmitter → Transmitter
 send_once p i v = record v {
   s = if i == sent v then next_in seq_nos v.s else v.s;
   pd = v.pd + 1;
-  entries = record v.entries { now = change_at (stamped v.ps) (onward p.keep v.first i) v.entries.now }
+  entries = record v.entries { now = change_at (stamped v.ps) (onward p.keep v.first i) v.entries.now };
 }
 
 -- ---- the whole call, where the message to send is known or none is to be sent; 13 stands before 8

@@ -17,7 +17,7 @@ keep_message p message v =
     record v {
       kept = v.kept + 1;
       entries = record v.entries { now = change_at (with_length (length message)) slot v.entries.now };
-      bytes = record v.bytes { now = write_at (slot * p.longest) message v.bytes.now }
+      bytes = record v.bytes { now = write_at (slot * p.longest) message v.bytes.now };
     }
 
 -- the refusals of a call that works

@@ -7,4 +7,5 @@ mod store;
 mod submitting;
 
 pub use polling::poll;
+pub use sending::send;
 pub use submitting::submit;
