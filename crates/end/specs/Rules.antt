@@ -100,11 +100,17 @@ end_keeps e =
     && vt_keeps e.params e.vt
     && vr_keeps e.params e.vr
 
--- "17, 15": what stands first in the order of every call but opening and taking
-abbrev pub works : End → Result Unit Refusal
-works e = if end_keeps e then (if e.running == 0 then Err Stopped else Ok tt) else Err Rules
+-- ---- what stands first in the order of every call
 
 -- a call's answer: what refuses it first, or else this
 abbrev pub unless_refused : {T : Type 0} → Result Unit Refusal → Result T Refusal → Result T Refusal
 unless_refused (Ok u) answer = answer
 unless_refused (Err e) answer = Err e
+
+-- 17
+abbrev pub judged : End → Result Unit Refusal
+judged e = if end_keeps e then Ok tt else Err Rules
+
+-- "17, 15", but for opening and taking
+abbrev pub works : End → Result Unit Refusal
+works e = unless_refused (judged e) (if e.running == 0 then Err Stopped else Ok tt)

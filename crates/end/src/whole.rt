@@ -1,5 +1,5 @@
 ghost use Rattle.std.specs.Prelude.{◌≡◌, OnOk};
-ghost use Rattle.end.specs.Rules.{end_keeps, works};
+ghost use Rattle.end.specs.Rules.{end_keeps, judged, works};
 ghost use Rattle.end.specs.Ready.{IsReady};
 
 use crate::{Params, Receiver, Transmitter};
@@ -27,15 +27,21 @@ impl End<'_> {
             && self.vr.keeps_rules(self.params)
     }
 
-    /// What refuses every call but opening and taking: 17, 15.
+    /// What refuses every call but opening first: 17.
     #[tactic(auto, using(crate::proofs::Readiness::ready))]
+    pub fn judged(&self) -> Result<(), Refusal>
+        ensures answer { result ≡ judged self.now }
+        ensures ready { OnOk result (IsReady self.now) }
+    {
+        if self.keeps_rules() { Ok(()) } else { Err(Refusal::Rules) }
+    }
+
+    /// What refuses every call but opening and taking first: 17, 15.
     pub fn works(&self) -> Result<(), Refusal>
         ensures answer { result ≡ works self.now }
         ensures ready { OnOk result (IsReady self.now) }
     {
-        if !self.keeps_rules() {
-            return Err(Refusal::Rules);
-        }
+        self.judged()?;
         if self.running == 0 {
             return Err(Refusal::Stopped);
         }
