@@ -5,16 +5,18 @@ use Rattle.std.proofs.lemmas.List.{get_or-take, length-take-le}
 use Rattle.std.proofs.lemmas.List.Sums.{AllPass-from_list_all}
 use Rattle.std.proofs.lemmas.List.FromFn.{length-enumerate_from, get_or-enumerate_from}
 use Rattle.std.proofs.lemmas.Bool.Decides.{nat_tests}
-use Rattle.std.specs.List.{enumerate_from}
+use Rattle.std.specs.List.{enumerate_from, zip}
+use Rattle.std.proofs.lemmas.Slice.Zip.{get_or-zip, length-zip}
 use Rattle.numbers.specs.Counting.{onward}
 use Rattle.end.specs.Ring.{place}
-use Rattle.end.specs.Rules.{sent, entry_keeps, entries_keep}
-use Rattle.end.specs.Ready.{IsReadyVt}
+use Rattle.end.specs.Rules.{sent, passed, seen, entry_keeps, entries_keep, mark_keeps, marks_keep}
+use Rattle.end.specs.Ready.{IsReadyVt, IsReadyVr}
 use Rattle.end.specs.declared.params.Params.{Params}
 use Rattle.end.specs.declared.transmitter.Kept.{Kept}
 use Rattle.end.specs.declared.transmitter.Transmitter.{Transmitter}
+use Rattle.end.specs.declared.receiver.Receiver.{Receiver}
 use Rattle.end.proofs.Slots.{slot_below, slot_past}
-use Rattle.numbers.proofs.Laws.{onward-lt}
+use Rattle.numbers.proofs.Laws.{onward-lt, onward-zero}
 
 -- the message in the slot of message i is message i
 pub place-onward : (size first i : ℕ) → first < size → i < size → place first size (onward size first i) ≡ i
@@ -43,4 +45,31 @@ pub entry_short : (p : Params) (v : Transmitter) (i : ℕ) (d : Kept) → IsRead
 entry_short p v i d ready h =
     let kept = ready.kept in
     let rule = entry_rule p v i d ready (omega arith) in
+    grind (arith, nat_tests)
+
+-- ---- the receiver's ring
+
+pub mark_at : (k r h head : ℕ) (marks lengths : List ℕ) (slot : ℕ) → marks_keep k r h head marks lengths ≡ true → slot < length marks → slot < length lengths → mark_keeps k r h (place head (length marks) slot) (get_or marks slot 0) (get_or lengths slot 0) ≡ true
+mark_at k r h head marks lengths slot e a b =
+    let all = AllPass-from_list_all (λ m. mark_keeps k r h (place head (length marks) m.0) m.1.0 m.1.1) (enumerate_from 0 (zip marks lengths)) e slot (0, (0, 0)) (omega (arith, length-enumerate_from 0 (zip marks lengths), length-zip marks lengths)) in
+    rw (get_or-enumerate_from 0 (zip marks lengths) slot (0, (0, 0)) (omega (arith, length-zip marks lengths)), zero-add slot, get_or-zip marks lengths slot (0, 0) a b) at all
+
+-- the mark and the length of message i of a receiver that keeps the rules
+pub mark_rule : (p : Params) (v : Receiver) (i : ℕ) → IsReadyVr p v → i < p.credit → mark_keeps p.longest (passed v) (seen v) i (get_or v.marks.now (onward p.credit v.head i) 0) (get_or v.lengths.now (onward p.credit v.head i) 0) ≡ true
+mark_rule p v i ready h =
+    let slot = onward p.credit v.head i in
+    let below : slot < p.credit = onward-lt p.credit (omega arith) v.head i in
+    let marks_long : length (take p.credit v.marks.now) ≡ p.credit = length-take-le p.credit v.marks.now ready.marks_long in
+    let lengths_long : length (take p.credit v.lengths.now) ≡ p.credit = length-take-le p.credit v.lengths.now ready.lengths_long in
+    let rule = mark_at p.longest (passed v) (seen v) v.head (take p.credit v.marks.now) (take p.credit v.lengths.now) slot ready.each (omega arith) (omega arith) in
+    rw (marks_long, place-onward p.credit v.head i ready.head h, get_or-take p.credit v.marks.now slot 0 below, get_or-take p.credit v.lengths.now slot 0 below) at rule
+
+-- message T, where there is one in order, has at most k bytes
+pub first_short : (p : Params) (v : Receiver) → IsReadyVr p v → 0 < passed v → get_or v.lengths.now v.head 0 ≤ p.longest
+first_short p v ready h =
+    let in_window = ready.passed_seen in
+    let in_credit = ready.seen_credit in
+    let rule = mark_rule p v 0 ready (omega arith) in
+    let here : onward p.credit v.head 0 ≡ v.head = onward-zero p.credit (omega arith) v.head ready.head in
+    let rule_here = rw here at rule in
     grind (arith, nat_tests)
