@@ -21,13 +21,13 @@ take_once p v = record v {
   t = next_in seq_nos v.t;
   mr = next_in seq_nos v.mr;
   head = onward p.credit v.head 1;
-  marks = record v.marks { now = slice_set v.marks.now v.head 0 }
+  marks = record v.marks { now = slice_set v.marks.now v.head 0 };
 }
 
 abbrev pub take_answer : End → List ℕ → Result ℕ Refusal
 take_answer e out = unless_refused (judged e) (
-  if passed e.vr == 0 then Err NothingInOrder
-  else encoded None (first_message e.params e.vr) out)
+    if passed e.vr == 0 then Err NothingInOrder
+    else encoded None (first_message e.params e.vr) out)
 
 abbrev pub taken : End → List ℕ → End
 taken e out = if is_ok (take_answer e out) then record e { vr = take_once e.params e.vr } else e

@@ -19,16 +19,25 @@ unmarked e = record e { waiting = 0 }
 
 abbrev pub opened_vt : Params → SeqNo → ℕ → Transmitter → Transmitter
 opened_vt p n g v = record v {
-  s = n; a = n; ms = onward_in seq_nos n g;
-  ps = poll_no n.0; pa = next_in poll_nos (poll_no n.0); pd = 0;
-  kept = 0; first = 0;
-  entries = record v.entries { now = map unmarked (take p.keep v.entries.now) ++ drop p.keep v.entries.now }
+  s = n;
+  a = n;
+  ms = onward_in seq_nos n g;
+  ps = poll_no n.0;
+  pa = next_in poll_nos (poll_no n.0);
+  pd = 0;
+  kept = 0;
+  first = 0;
+  entries = record v.entries { now = map unmarked (take p.keep v.entries.now) ++ drop p.keep v.entries.now };
 }
 
 abbrev pub opened_vr : Params → SeqNo → Receiver → Receiver
 opened_vr p n v = record v {
-  t = n; r = n; h = n; mr = onward_in seq_nos n p.credit; head = 0;
-  marks = record v.marks { now = replicate p.credit 0 ++ drop p.credit v.marks.now }
+  t = n;
+  r = n;
+  h = n;
+  mr = onward_in seq_nos n p.credit;
+  head = 0;
+  marks = record v.marks { now = replicate p.credit 0 ++ drop p.credit v.marks.now };
 }
 
 -- "Opening: 17": parameters, n and G in range, areas long enough

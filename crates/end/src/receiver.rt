@@ -24,20 +24,34 @@ pub struct Receiver<'a> {
 fn mark_keeps_rules(mark: u8, length: u32, i: usize, k: u32, passed: usize, seen: usize) -> bool
     ensures { result ≡ mark_keeps k passed seen i mark length }
 {
-    if mark == 0 { passed <= i } else { i < seen && i != passed && length <= k }
+    if mark == 0 {
+        passed <= i
+    } else {
+        i < seen && i != passed && length <= k
+    }
 }
 
 // The marks and the lengths of a ring keep the rules.
-fn marks_keep_rules(marks: &[u8], lengths: &[u32], head: usize, k: u32, passed: usize, seen: usize) -> bool
+fn marks_keep_rules(
+    marks: &[u8],
+    lengths: &[u32],
+    head: usize,
+    k: u32,
+    passed: usize,
+    seen: usize,
+) -> bool
     requires { head < length marks.now }
     ensures { result ≡ marks_keep k passed seen head marks.now lengths.now }
 {
     let size = marks.len();
-    marks
-        .iter()
-        .zip(lengths)
-        .enumerate()
-        .all(|(slot, (&mark, &length))| mark_keeps_rules(mark, length, place(slot, head, size), k, passed, seen))
+    marks.iter().zip(lengths).enumerate().all(|(slot, (&mark, &length))| mark_keeps_rules(
+        mark,
+        length,
+        place(slot, head, size),
+        k,
+        passed,
+        seen,
+    ))
 }
 
 impl Receiver<'_> {

@@ -7,7 +7,11 @@ pub fn place(slot: usize, first: usize, size: usize) -> usize
     requires { first < size }
     ensures { result ≡ place_of first size slot }
 {
-    if slot >= first { slot - first } else { size - (first - slot) }
+    if slot >= first {
+        slot - first
+    } else {
+        size - (first - slot)
+    }
 }
 
 /// The slot of message i, counted from the message in the slot `first`.
@@ -19,5 +23,9 @@ pub fn slot_of(first: u32, i: u32, size: u32) -> usize
     ensures below { result < size }
 {
     let slot = first as usize + i as usize;
-    if slot < size as usize { slot } else { slot - size as usize }
+    if slot < size as usize {
+        slot
+    } else {
+        slot - size as usize
+    }
 }

@@ -20,7 +20,12 @@ impl Kept {
     fn keeps_rules(self, i: usize, k: u32, sent: usize, kept: usize) -> bool
         ensures { result ≡ entry_keeps k sent kept i self }
     {
-        (i >= kept || self.length <= k) && (if i < sent { self.stamp.in_range() } else { self.waiting == 0 })
+        (i >= kept || self.length <= k)
+            && (if i < sent {
+                self.stamp.in_range()
+            } else {
+                self.waiting == 0
+            })
     }
 }
 
@@ -46,9 +51,12 @@ fn entries_keep_rules(ring: &[Kept], first: usize, k: u32, sent: usize, kept: us
     ensures { result ≡ entries_keep k sent kept first ring.now }
 {
     let size = ring.len();
-    ring.iter()
-        .enumerate()
-        .all(|(slot, entry)| entry.keeps_rules(place(slot, first, size), k, sent, kept))
+    ring.iter().enumerate().all(|(slot, entry)| entry.keeps_rules(
+        place(slot, first, size),
+        k,
+        sent,
+        kept,
+    ))
 }
 
 impl Transmitter<'_> {
@@ -72,7 +80,8 @@ impl Transmitter<'_> {
     pub(crate) fn has_room(&self, p: Params) -> bool
         ensures { result ≡ vt_room p self.now }
     {
-        p.keep as usize <= self.entries.len() && p.keep as usize * p.longest as usize <= self.bytes.len()
+        p.keep as usize <= self.entries.len()
+            && p.keep as usize * p.longest as usize <= self.bytes.len()
     }
 
     fn counts_keep_rules(&self, p: Params) -> bool

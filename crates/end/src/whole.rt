@@ -33,7 +33,11 @@ impl End<'_> {
         ensures answer { result ≡ judged self.now }
         ensures ready { OnOk result (IsReady self.now) }
     {
-        if self.keeps_rules() { Ok(()) } else { Err(Refusal::Rules) }
+        if self.keeps_rules() {
+            Ok(())
+        } else {
+            Err(Refusal::Rules)
+        }
     }
 
     /// What refuses every call but opening and taking first: 17, 15.

@@ -1,6 +1,5 @@
 -- A change of one entry is a write to its slot.
-use Rattle.std.proofs.Common.{◌≡◌, ℕ, zero, suc, ◌<◌, List, [], ◌∷◌, length, get_or, set, ◌+◌, ◌*◌, ◌^◌, ◌≤◌, sym, ap, refl, arith, mul-le-mul_right, add-one, suc-mul}
-use Rattle.std.proofs.lemmas.Nat.{mul-le}
+use Rattle.std.proofs.Common.{◌≡◌, ℕ, zero, suc, ◌<◌, List, [], ◌∷◌, length, get_or, set, sym, ap, refl, arith}
 use Rattle.end.proofs.Rings.{entry_short}
 use Rattle.end.proofs.Slots.{slot_room}
 use Rattle.transmit.specs.Store.{change_at, with_length}

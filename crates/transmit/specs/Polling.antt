@@ -1,5 +1,5 @@
 -- "Poll: VT(PS) goes up, POLL carries it and VT(S), VT(PD) becomes 0." "Poll: 17, 15, 14, 8."
-use Rattle.std.specs.Prelude.{ℕ, ◌==◌, if◌then◌else◌, List, is_ok, None, Result, Ok, Err}
+use Rattle.std.specs.Prelude.{ℕ, ◌==◌, if◌then◌else◌, List, is_ok, None, Result, Err}
 use Rattle.numbers.specs.Numbers.{poll_nos}
 use Rattle.numbers.specs.Counted.{next_in}
 use Rattle.pdu.specs.Layout.{poll_bytes}
