@@ -1,6 +1,6 @@
 -- "Take: message T is written out, its length is the count, its mark is cleared, T and with it VR(MR) go up." "Take: 17, 16, 8; taking goes on after a
 -- stop."
-use Rattle.std.specs.Prelude.{ℕ, ◌+◌, ◌*◌, ◌==◌, if◌then◌else◌, List, is_ok, None, Result, Ok, Err, slice_index, slice_range, slice_set}
+use Rattle.std.specs.Prelude.{ℕ, ◌+◌, ◌*◌, ◌==◌, if◌then◌else◌, List, is_ok, None, Result, Err, slice_index, slice_range, slice_set}
 use Rattle.numbers.specs.Counting.{onward}
 use Rattle.numbers.specs.Numbers.{seq_nos}
 use Rattle.numbers.specs.Counted.{next_in}

@@ -1,9 +1,9 @@
 -- The tests of 17, once passed, as facts.
-use Rattle.std.proofs.Common.{◌≡◌, ℕ, Bool, true, false, ◌&&◌, refl, arith, rules}
+use Rattle.std.proofs.Common.{◌≡◌, Bool, true, false, ◌&&◌, refl, arith}
 use Rattle.std.specs.Prelude.{nat_le}
 use Rattle.std.proofs.lemmas.Bool.Decides.{nat_tests}
 use Rattle.std.proofs.lemmas.Bool.{leb-true}
-use Rattle.end.specs.Rules.{params_keep, vt_room, vr_room, vt_counts_keep, vt_keeps, vr_counts_keep, vr_keeps, end_keeps}
+use Rattle.end.specs.Rules.{params_keep, vt_room, vr_room, vt_keeps, vr_keeps, end_keeps}
 use Rattle.end.specs.Ready.{IsInRange, IsReadyVt, IsReadyVr, IsReady}
 use Rattle.end.specs.declared.params.Params.{Params}
 use Rattle.end.specs.declared.transmitter.Transmitter.{Transmitter}

@@ -1,7 +1,7 @@
 -- "Opened with n: VT(S) = VT(A) = VR(R) = VR(H) = VT(PS) = n; VT(PA) = n + 1; VT(PD) = 0; the next number to take, T, is n; VR(MR) = T + C, always;
 -- VT(MS) = n + G. Nothing is kept or marked, the connection runs, message bytes stay."
-use Rattle.std.specs.Prelude.{ℕ, Bool, ◌&&◌, nat_lt, nat_le, if◌then◌else◌, List, map, ◌++◌, take, drop, replicate, Result, Ok, Err}
-use Rattle.numbers.specs.Numbers.{seq_no, poll_no, seq_nos, poll_nos}
+use Rattle.std.specs.Prelude.{ℕ, Bool, ◌&&◌, nat_le, if◌then◌else◌, map, ◌++◌, take, drop, replicate, Result, Ok, Err}
+use Rattle.numbers.specs.Numbers.{poll_no, seq_nos, poll_nos}
 use Rattle.numbers.specs.Counted.{onward_in, next_in, is_in_range}
 use Rattle.numbers.specs.declared.seq.SeqNo.{SeqNo}
 use Rattle.pdu.specs.declared.refusal.Refusal.{Refusal}

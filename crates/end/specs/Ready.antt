@@ -1,5 +1,5 @@
 -- What a call may count on where 17 doesn't refuse it: the rules as facts.
-use Rattle.std.specs.Prelude.{◌≡◌, ℕ, true, ◌*◌, ◌≤◌, ◌<◌, length, take}
+use Rattle.std.specs.Prelude.{◌≡◌, true, ◌*◌, ◌≤◌, ◌<◌, length, take}
 use Rattle.numbers.specs.Numbers.{modulus}
 use Rattle.end.specs.Rules.{sent, outstanding, passed, seen, entries_keep, marks_keep}
 use Rattle.end.specs.declared.params.Params.{Params}
