@@ -1,8 +1,8 @@
 -- What 17 says of one message: the rule of its entry, by its place and by its slot.
-use Rattle.std.proofs.Common.{◌≡◌, ℕ, ◌+◌, ◌-◌, ◌<◌, ◌≤◌, ◌⊎◌, inl, inr, List, length, take, get_or, true, arith, le-leb, zero-add}
+use Rattle.std.proofs.Common.{sym, ◌∙◌, ◌≡◌, ℕ, ◌+◌, ◌-◌, ◌<◌, ◌≤◌, ◌⊎◌, inl, inr, List, length, take, get_or, true, arith, le-leb, zero-add}
 use Rattle.std.proofs.lemmas.Bool.{cases_lt, lt-leb}
 use Rattle.std.proofs.lemmas.List.{get_or-take, length-take-le}
-use Rattle.std.proofs.lemmas.List.Sums.{AllPass-from_list_all}
+use Rattle.std.proofs.lemmas.List.Sums.{AllPass-from_list_all, list_all-from_AllPass}
 use Rattle.std.proofs.lemmas.List.FromFn.{length-enumerate_from, get_or-enumerate_from}
 use Rattle.std.proofs.lemmas.Bool.Decides.{nat_tests}
 use Rattle.std.specs.List.{enumerate_from, zip}
@@ -73,3 +73,21 @@ first_short p v ready h =
     let here : onward p.credit v.head 0 ≡ v.head = onward-zero p.credit (omega arith) v.head ready.head in
     let rule_here = rw here at rule in
     grind (arith, nat_tests)
+
+-- a ring keeps the rules where each of its entries does
+pub entries_from : (k waiting kept first : ℕ) (ring : List Kept) → ((slot : ℕ) (d : Kept) → slot < length ring → entry_keeps k waiting kept (place first (length ring) slot) (get_or ring slot d) ≡ true) → entries_keep k waiting kept first ring ≡ true
+entries_from k waiting kept first ring each =
+    list_all-from_AllPass (λ m. entry_keeps k waiting kept (place first (length ring) m.0) m.1) (enumerate_from 0 ring) (λ slot d h.
+      let l : slot < length ring = omega (arith, length-enumerate_from 0 ring) in
+      rw (get_or-enumerate_from 0 ring slot d l, zero-add slot) (each slot d.1 l))
+
+-- a slot is the slot of its message
+pub onward-place : (size first slot : ℕ) → first < size → slot < size → onward size first (place first size slot) ≡ slot
+onward-place size first slot h k = go (cases_lt slot first)
+  where
+    go : ((slot < first) ⊎ (first ≤ slot)) → onward size first (place first size slot) ≡ slot
+    go (inr l) = rw (le-leb first slot l) (let e : first + (slot - first) ≡ slot = omega arith in sym (slot_below size first (slot - first) (omega arith)) ∙ e)
+    go (inl l) = rw (lt-leb first slot l) (let e : first + (size - (first - slot)) - size ≡ slot = omega arith in sym (slot_past size first (size - (first - slot)) (omega arith) h (omega arith)) ∙ e)
+
+pub place-lt : (size first slot : ℕ) → first < size → slot < size → place first size slot < size
+place-lt size first slot h k = grind (arith, nat_tests)

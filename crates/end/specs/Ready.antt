@@ -1,6 +1,7 @@
 -- What a call may count on where 17 doesn't refuse it: the rules as facts.
-use Rattle.std.specs.Prelude.{◌≡◌, true, ◌*◌, ◌≤◌, ◌<◌, length, take}
-use Rattle.numbers.specs.Numbers.{modulus}
+use Rattle.std.specs.Prelude.{◌≡◌, true, ◌*◌, ◌%◌, ◌≤◌, ◌<◌, length, take}
+use Rattle.numbers.specs.Numbers.{modulus, seq_nos}
+use Rattle.numbers.specs.Counted.{ahead_in}
 use Rattle.end.specs.Rules.{sent, outstanding, passed, seen, entries_keep, marks_keep}
 use Rattle.end.specs.declared.params.Params.{Params}
 use Rattle.end.specs.declared.transmitter.Transmitter.{Transmitter}
@@ -15,6 +16,7 @@ pub record IsInRange (p : Params) : Type 0 where
   pub longest : p.longest ≤ 4096
   pub some_maxstat : 3 ≤ p.maxstat
   pub maxstat : p.maxstat ≤ 67
+  pub odd : p.maxstat % 2 ≡ 1
   pub some_maxpd : 1 ≤ p.maxpd
   pub maxpd : p.maxpd ≤ 1024
 
@@ -43,6 +45,7 @@ pub record IsReadyVr (p : Params) (v : Receiver) : Type 0 where
   pub mr : v.mr.0 < modulus
   pub passed_seen : passed v ≤ seen v
   pub seen_credit : seen v ≤ p.credit
+  pub window : ahead_in seq_nos v.mr v.t ≡ p.credit
   pub head : v.head < p.credit
   pub each : marks_keep p.longest (passed v) (seen v) v.head (take p.credit v.marks.now) (take p.credit v.lengths.now) ≡ true
 
