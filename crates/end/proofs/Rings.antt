@@ -1,7 +1,7 @@
 -- What 17 says of one message: the rule of its entry, by its place and by its slot.
-use Rattle.std.proofs.Common.{sym, ◌∙◌, ◌≡◌, ℕ, ◌+◌, ◌-◌, ◌<◌, ◌≤◌, ◌⊎◌, inl, inr, List, length, take, get_or, true, arith, le-leb, zero-add}
+use Rattle.std.proofs.Common.{sym, ◌∙◌, ◌≡◌, ℕ, ◌+◌, ◌-◌, ◌<◌, ◌≤◌, ◌≢◌, ◌⊎◌, inl, inr, List, length, take, get_or, true, arith, le-leb, zero-add}
 use Rattle.std.proofs.lemmas.Bool.{cases_lt, lt-leb}
-use Rattle.std.proofs.lemmas.List.{get_or-take, length-take-le}
+use Rattle.std.proofs.lemmas.List.{get_or-take, length-take-le, get_or_default}
 use Rattle.std.proofs.lemmas.List.Sums.{AllPass-from_list_all, list_all-from_AllPass}
 use Rattle.std.proofs.lemmas.List.FromFn.{length-enumerate_from, get_or-enumerate_from}
 use Rattle.std.proofs.lemmas.Bool.Decides.{nat_tests}
@@ -91,3 +91,28 @@ onward-place size first slot h k = go (cases_lt slot first)
 
 pub place-lt : (size first slot : ℕ) → first < size → slot < size → place first size slot < size
 place-lt size first slot h k = grind (arith, nat_tests)
+
+-- ---- the first message goes, and each other one is a place nearer
+
+pub place_next : (size first slot : ℕ) → first < size → slot < size → slot ≢ first → place (onward size first 1) size slot + 1 ≡ place first size slot
+place_next size first slot h k n = go (cases_lt (first + 1) size)
+  where
+    go : ((first + 1 < size) ⊎ (size ≤ first + 1)) → place (onward size first 1) size slot + 1 ≡ place first size slot
+    go (inl l) = rw (← slot_below size first 1 l) (grind (arith, nat_tests))
+    go (inr l) = rw (← slot_past size first 1 l h (omega arith)) (grind (arith, nat_tests))
+
+pub place_last : (size first : ℕ) → first < size → place (onward size first 1) size first + 1 ≡ size
+place_last size first h = go (cases_lt (first + 1) size)
+  where
+    go : ((first + 1 < size) ⊎ (size ≤ first + 1)) → place (onward size first 1) size first + 1 ≡ size
+    go (inl l) = rw (← slot_below size first 1 l) (grind (arith, nat_tests))
+    go (inr l) = rw (← slot_past size first 1 l h (omega arith)) (grind (arith, nat_tests))
+
+pub marks_from : (k passed' seen' head : ℕ) (marks lengths : List ℕ) → length marks ≤ length lengths → ((slot : ℕ) → slot < length marks → mark_keeps k passed' seen' (place head (length marks) slot) (get_or marks slot 0) (get_or lengths slot 0) ≡ true) → marks_keep k passed' seen' head marks lengths ≡ true
+marks_from k passed' seen' head marks lengths long each =
+    list_all-from_AllPass (λ m. mark_keeps k passed' seen' (place head (length marks) m.0) m.1.0 m.1.1) (enumerate_from 0 (zip marks lengths)) (λ slot d h.
+      let l : slot < length (zip marks lengths) = omega (arith, length-enumerate_from 0 (zip marks lengths)) in
+      let a : slot < length marks = omega (arith, length-zip marks lengths) in
+      let m : get_or marks slot d.1.0 ≡ get_or marks slot 0 = get_or_default marks slot d.1.0 0 a in
+      let n : get_or lengths slot d.1.1 ≡ get_or lengths slot 0 = get_or_default lengths slot d.1.1 0 (omega arith) in
+      rw (get_or-enumerate_from 0 (zip marks lengths) slot d l, zero-add slot, get_or-zip marks lengths slot d.1 a (omega arith), m, n) (each slot a))
