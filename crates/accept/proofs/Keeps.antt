@@ -1,6 +1,6 @@
 -- Each step of the receiver keeps the rules of 17.
-use Rattle.std.proofs.Common.{◌≡◌, ◌≢◌, ◌⊎◌, inl, inr, ℕ, ◌+◌, ◌-◌, ◌*◌, ◌<◌, ◌≤◌, List, length, take, get_or, set, true, sym, ap, refl, ◌∙◌, arith}
-use Rattle.std.specs.Prelude.{Result, Ok, Err}
+use Rattle.std.proofs.Common.{◌≡◌, ◌≢◌, ◌⊎◌, inl, inr, ℕ, ◌+◌, ◌<◌, ◌≤◌, List, length, take, get_or, set, true, refl, ◌∙◌, arith}
+use Rattle.std.specs.Prelude.{Ok}
 use Rattle.std.proofs.lemmas.Bool.{cases_eq, cases_lt, eq-eqb, ne_eqb, lt-ltb, le-ltb, le-leb}
 use Rattle.std.proofs.lemmas.Bool.Decides.{nat_tests}
 use Rattle.std.proofs.lemmas.List.{get_or-take, length-take-le, length-set, get_or-set_same, get_or-set_other}
@@ -9,7 +9,7 @@ use Rattle.numbers.specs.Numbers.{modulus}
 use Rattle.numbers.proofs.Laws.{onward-lt, ahead-lt, onward-ahead, ahead-onward, onward-onward}
 use Rattle.end.specs.Ring.{place}
 use Rattle.end.specs.Rules.{passed, seen, mark_keeps, marks_keep, end_keeps, judged}
-use Rattle.end.specs.Ready.{IsInRange, IsReadyVr, IsReady}
+use Rattle.end.specs.Ready.{IsInRange, IsReadyVr}
 use Rattle.end.proofs.Rings.{mark_at, marks_from, place_next, place_last}
 use Rattle.end.proofs.Readiness.{ready, tests}
 use Rattle.end.specs.declared.params.Params.{Params}
@@ -52,14 +52,19 @@ marks_taken p v params r some =
   where
     long : length (take p.credit (set v.marks.now v.head 0)) ≡ p.credit
     long = length-take-le p.credit (set v.marks.now v.head 0) (let before = r.marks_long in rw length-set before)
+
     long_before : length (take p.credit v.marks.now) ≡ p.credit
     long_before = length-take-le p.credit v.marks.now r.marks_long
+
     long_lengths : length (take p.credit v.lengths.now) ≡ p.credit
     long_lengths = length-take-le p.credit v.lengths.now r.lengths_long
+
     passed_less : passed (take_once p v) + 1 ≡ passed v
     passed_less = nearer v.r.0 v.t.0 r.r r.t some
+
     seen_less : seen (take_once p v) + 1 ≡ seen v
     seen_less = let b = r.passed_seen in nearer v.h.0 v.t.0 r.h r.t (omega arith)
+
     each : (slot : ℕ) → slot < p.credit → ((slot ≡ v.head) ⊎ (slot ≢ v.head)) → mark_keeps p.longest (passed (take_once p v)) (seen (take_once p v)) (place (onward p.credit v.head 1) (length (take p.credit (set v.marks.now v.head 0))) slot) (get_or (take p.credit (set v.marks.now v.head 0)) slot 0) (get_or (take p.credit v.lengths.now) slot 0) ≡ true
     each slot l (inl e) =
         let gone : get_or (set v.marks.now v.head 0) slot 0 ≡ 0 = let before = r.marks_long in rw e (get_or-set_same v.marks.now v.head 0 0 (omega arith)) in
@@ -77,9 +82,11 @@ marks_taken p v params r some =
 take_vr : (p : Params) (v : Receiver) → IsInRange p → IsReadyVr p v → 0 < passed v → IsReadyVr p (take_once p v)
 take_vr p v params r some = record {
   marks_long = let before = r.marks_long in rw length-set before;
-  lengths_long = r.lengths_long; bytes_long = r.bytes_long;
+  lengths_long = r.lengths_long;
+  bytes_long = r.bytes_long;
   t = onward-lt modulus (omega arith) v.t.0 1;
-  r = r.r; h = r.h;
+  r = r.r;
+  h = r.h;
   mr = onward-lt modulus (omega arith) v.mr.0 1;
   passed_seen = let a = nearer v.r.0 v.t.0 r.r r.t some in let b = r.passed_seen in let c = nearer v.h.0 v.t.0 r.h r.t (omega arith) in omega arith;
   seen_credit = let b = r.passed_seen in let c = nearer v.h.0 v.t.0 r.h r.t (omega arith) in let d = r.seen_credit in omega arith;
@@ -93,6 +100,7 @@ take_keeps e out h = go (cases_eq (passed e.vr) 0) (cases_lt (length out) (lengt
   where
     ruled : judged e ≡ Ok tt
     ruled = rw h refl
+
     go : ((passed e.vr ≡ 0) ⊎ (passed e.vr ≢ 0)) → ((length out < length (first_message e.params e.vr)) ⊎ (length (first_message e.params e.vr) ≤ length out)) → end_keeps (taken e out) ≡ true
     go (inl a) _ = rw (ruled, eq-eqb (passed e.vr) 0 a) h
     go (inr a) (inl b) = rw (ruled, ne_eqb (passed e.vr) 0 a, lt-ltb (length out) (length (first_message e.params e.vr)) b) h

@@ -1,4 +1,5 @@
 pub mod Clearing
+pub mod Opened
 pub mod Readiness
 pub mod Rings
 pub mod Slots

@@ -12,7 +12,7 @@ use Rattle.end.specs.declared.transmitter.Transmitter.{Transmitter}
 use Rattle.end.specs.declared.receiver.Receiver.{Receiver}
 use Rattle.end.specs.declared.whole.End.{End}
 
-in_range : (p : Params) → params_keep p ≡ true → IsInRange p
+pub in_range : (p : Params) → params_keep p ≡ true → IsInRange p
 in_range p h = record {
   some_credit = grind (arith, nat_tests);
   credit = grind (arith, nat_tests);

@@ -78,8 +78,8 @@ first_short p v ready h =
 pub entries_from : (k waiting kept first : ℕ) (ring : List Kept) → ((slot : ℕ) (d : Kept) → slot < length ring → entry_keeps k waiting kept (place first (length ring) slot) (get_or ring slot d) ≡ true) → entries_keep k waiting kept first ring ≡ true
 entries_from k waiting kept first ring each =
     list_all-from_AllPass (λ m. entry_keeps k waiting kept (place first (length ring) m.0) m.1) (enumerate_from 0 ring) (λ slot d h.
-      let l : slot < length ring = omega (arith, length-enumerate_from 0 ring) in
-      rw (get_or-enumerate_from 0 ring slot d l, zero-add slot) (each slot d.1 l))
+    let l : slot < length ring = omega (arith, length-enumerate_from 0 ring) in
+    rw (get_or-enumerate_from 0 ring slot d l, zero-add slot) (each slot d.1 l))
 
 -- a slot is the slot of its message
 pub onward-place : (size first slot : ℕ) → first < size → slot < size → onward size first (place first size slot) ≡ slot
@@ -111,8 +111,8 @@ place_last size first h = go (cases_lt (first + 1) size)
 pub marks_from : (k passed' seen' head : ℕ) (marks lengths : List ℕ) → length marks ≤ length lengths → ((slot : ℕ) → slot < length marks → mark_keeps k passed' seen' (place head (length marks) slot) (get_or marks slot 0) (get_or lengths slot 0) ≡ true) → marks_keep k passed' seen' head marks lengths ≡ true
 marks_from k passed' seen' head marks lengths long each =
     list_all-from_AllPass (λ m. mark_keeps k passed' seen' (place head (length marks) m.0) m.1.0 m.1.1) (enumerate_from 0 (zip marks lengths)) (λ slot d h.
-      let l : slot < length (zip marks lengths) = omega (arith, length-enumerate_from 0 (zip marks lengths)) in
-      let a : slot < length marks = omega (arith, length-zip marks lengths) in
-      let m : get_or marks slot d.1.0 ≡ get_or marks slot 0 = get_or_default marks slot d.1.0 0 a in
-      let n : get_or lengths slot d.1.1 ≡ get_or lengths slot 0 = get_or_default lengths slot d.1.1 0 (omega arith) in
-      rw (get_or-enumerate_from 0 (zip marks lengths) slot d l, zero-add slot, get_or-zip marks lengths slot d.1 a (omega arith), m, n) (each slot a))
+    let l : slot < length (zip marks lengths) = omega (arith, length-enumerate_from 0 (zip marks lengths)) in
+    let a : slot < length marks = omega (arith, length-zip marks lengths) in
+    let m : get_or marks slot d.1.0 ≡ get_or marks slot 0 = get_or_default marks slot d.1.0 0 a in
+    let n : get_or lengths slot d.1.1 ≡ get_or lengths slot 0 = get_or_default lengths slot d.1.1 0 (omega arith) in
+    rw (get_or-enumerate_from 0 (zip marks lengths) slot d l, zero-add slot, get_or-zip marks lengths slot d.1 a (omega arith), m, n) (each slot a))

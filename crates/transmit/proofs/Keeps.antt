@@ -1,5 +1,5 @@
 -- Each step of the transmitter keeps the rules of 17.
-use Rattle.std.proofs.Common.{◌≡◌, ◌≢◌, ◌⊎◌, inl, inr, ℕ, zero, suc, ◌+◌, ◌-◌, ◌*◌, ◌<◌, ◌≤◌, List, [], ◌∷◌, ◌++◌, length, take, drop, get_or, Bool, true, false, sym, ap, refl, ◌∙◌, arith}
+use Rattle.std.proofs.Common.{◌≡◌, ◌≢◌, ◌⊎◌, inl, inr, ℕ, zero, suc, ◌+◌, ◌*◌, ◌<◌, ◌≤◌, List, [], ◌∷◌, length, take, get_or, Bool, true, false, sym, ap, refl, ◌∙◌, arith}
 use Rattle.std.specs.Prelude.{Result, Ok, Err, Option, Some, None, find}
 use Rattle.std.specs.List.{range_with_len}
 use Rattle.std.proofs.lemmas.Bool.{cases_eq, cases_lt, eq-eqb, ne_eqb, lt-ltb, le-ltb}
@@ -12,7 +12,7 @@ use Rattle.numbers.specs.Numbers.{modulus}
 use Rattle.pdu.specs.Layout.{write_at}
 use Rattle.end.specs.Ring.{place}
 use Rattle.end.specs.Rules.{sent, outstanding, entry_keeps, entries_keep, end_keeps, judged}
-use Rattle.end.specs.Ready.{IsInRange, IsReadyVt, IsReady}
+use Rattle.end.specs.Ready.{IsInRange, IsReadyVt}
 use Rattle.end.proofs.Rings.{entry_at, entries_from, place-onward, onward-place, place-lt}
 use Rattle.end.proofs.Slots.{slot_room}
 use Rattle.end.proofs.Readiness.{ready, tests}
@@ -48,19 +48,22 @@ get_or-change_at_other f (suc i) (suc j) (x ∷ xs) d h = get_or-change_at_other
 
 -- the ring after a change of the entry of message i keeps the rules for new counts, where each entry keeps its rule
 pub entries_changed : (p : Params) (v : Transmitter) (f : Kept → Kept) (i sent' kept' : ℕ) → IsReadyVt p v → i < p.keep
-  → ((j : ℕ) (e : Kept) → j < p.keep → j ≢ i → entry_keeps p.longest (sent v) v.kept j e ≡ true → entry_keeps p.longest sent' kept' j e ≡ true)
-  → ((e : Kept) → entry_keeps p.longest (sent v) v.kept i e ≡ true → entry_keeps p.longest sent' kept' i (f e) ≡ true)
-  → entries_keep p.longest sent' kept' v.first (take p.keep (change_at f (onward p.keep v.first i) v.entries.now)) ≡ true
+    → ((j : ℕ) (e : Kept) → j < p.keep → j ≢ i → entry_keeps p.longest (sent v) v.kept j e ≡ true → entry_keeps p.longest sent' kept' j e ≡ true)
+    → ((e : Kept) → entry_keeps p.longest (sent v) v.kept i e ≡ true → entry_keeps p.longest sent' kept' i (f e) ≡ true)
+    → entries_keep p.longest sent' kept' v.first (take p.keep (change_at f (onward p.keep v.first i) v.entries.now)) ≡ true
 entries_changed p v f i sent' kept' ready h others here =
     entries_from p.longest sent' kept' v.first (take p.keep (change_at f (onward p.keep v.first i) v.entries.now)) (λ slot d l. each slot d (omega (arith, long)) (cases_eq slot (onward p.keep v.first i)))
   where
     long : length (take p.keep (change_at f (onward p.keep v.first i) v.entries.now)) ≡ p.keep
     long = length-take-le p.keep (change_at f (onward p.keep v.first i) v.entries.now) (omega (arith, ready.entries_long, length-change_at f (onward p.keep v.first i) v.entries.now))
+
     long_before : length (take p.keep v.entries.now) ≡ p.keep
     long_before = length-take-le p.keep v.entries.now ready.entries_long
+
     rule_before : (slot : ℕ) (d : Kept) → slot < p.keep → entry_keeps p.longest (sent v) v.kept (place v.first p.keep slot) (get_or v.entries.now slot d) ≡ true
     rule_before slot d l =
         rw (long_before, get_or-take p.keep v.entries.now slot d l) at (entry_at p.longest (sent v) v.kept v.first (take p.keep v.entries.now) slot d ready.each (omega (arith, long_before)))
+
     each : (slot : ℕ) (d : Kept) → slot < p.keep → ((slot ≡ onward p.keep v.first i) ⊎ (slot ≢ onward p.keep v.first i)) → entry_keeps p.longest sent' kept' (place v.first (length (take p.keep (change_at f (onward p.keep v.first i) v.entries.now))) slot) (get_or (take p.keep (change_at f (onward p.keep v.first i) v.entries.now)) slot d) ≡ true
     each slot d l (inl e) =
         let long_entries = ready.entries_long in
@@ -81,19 +84,23 @@ submit_vt : (p : Params) (message : List ℕ) (v : Transmitter) → IsInRange p 
 submit_vt p message v params ready free short = record {
   entries_long = let long = ready.entries_long in rw length-change_at long;
   bytes_long =
-    let slot = onward p.keep v.first v.kept in
-    let room = slot_room slot p.keep p.longest (length message) (length v.bytes.now) (onward-lt p.keep (omega arith) v.first v.kept) params.keep params.longest short ready.bytes_long in
-    let same = length-write_at (slot * p.longest) message v.bytes.now room.0 in
-    rw same ready.bytes_long;
-  s = ready.s; a = ready.a; ms = ready.ms; ps = ready.ps; pa = ready.pa;
+      let slot = onward p.keep v.first v.kept in
+      let room = slot_room slot p.keep p.longest (length message) (length v.bytes.now) (onward-lt p.keep (omega arith) v.first v.kept) params.keep params.longest short ready.bytes_long in
+      let same = length-write_at (slot * p.longest) message v.bytes.now room.0 in
+      rw same ready.bytes_long;
+  s = ready.s;
+  a = ready.a;
+  ms = ready.ms;
+  ps = ready.ps;
+  pa = ready.pa;
   kept = omega arith;
   sent_kept = let before = ready.sent_kept in omega arith;
   first = ready.first;
   few_outstanding = ready.few_outstanding;
   pd = ready.pd;
   each = entries_changed p v (with_length (length message)) v.kept (sent v) (v.kept + 1) ready free
-    (λ j e l n rule. grind (arith, nat_tests))
-    (λ e rule. let before = ready.sent_kept in grind (arith, nat_tests));
+      (λ j e l n rule. grind (arith, nat_tests))
+      (λ e rule. let before = ready.sent_kept in grind (arith, nat_tests));
 }
 
 -- an end whose transmitter alone changed, and keeps the rules
@@ -107,6 +114,7 @@ submit_keeps e message h = go (cases_eq e.running 0) (cases_lt e.params.longest 
   where
     ruled : judged e ≡ Ok tt
     ruled = rw h refl
+
     go : ((e.running ≡ 0) ⊎ (e.running ≢ 0)) → ((e.params.longest < length message) ⊎ (length message ≤ e.params.longest)) → ((e.vt.kept ≡ e.params.keep) ⊎ (e.vt.kept ≢ e.params.keep)) → end_keeps (submitted e message) ≡ true
     go (inl a) _ _ = rw (ruled, eq-eqb e.running 0 a) h
     go (inr a) (inl b) _ = rw (ruled, ne_eqb e.running 0 a, lt-ltb e.params.longest (length message) b) h
@@ -121,17 +129,22 @@ submit_keeps e message h = go (cases_eq e.running 0) (cases_lt e.params.longest 
 
 poll_vt : (p : Params) (v : Transmitter) → IsReadyVt p v → outstanding v ≢ 8388607 → IsReadyVt p (poll_once v)
 poll_vt p v r free = record {
-  entries_long = r.entries_long; bytes_long = r.bytes_long;
-  s = r.s; a = r.a; ms = r.ms;
+  entries_long = r.entries_long;
+  bytes_long = r.bytes_long;
+  s = r.s;
+  a = r.a;
+  ms = r.ms;
   ps = onward-lt modulus (omega arith) v.ps.0 1;
   pa = r.pa;
-  kept = r.kept; sent_kept = r.sent_kept; first = r.first;
+  kept = r.kept;
+  sent_kept = r.sent_kept;
+  first = r.first;
   few_outstanding =
-    let few = r.few_outstanding in
-    let one_more : outstanding (poll_once v) ≡ outstanding v + 1 = ahead_more modulus (omega arith) (onward modulus v.ps.0 1) v.pa.0 1 (onward-lt modulus (omega arith) v.ps.0 1) r.pa (omega arith) in
-    omega arith;
+      let few = r.few_outstanding in
+      let one_more : outstanding (poll_once v) ≡ outstanding v + 1 = ahead_more modulus (omega arith) (onward modulus v.ps.0 1) v.pa.0 1 (onward-lt modulus (omega arith) v.ps.0 1) r.pa (omega arith) in
+      omega arith;
   pd = omega arith;
-  each = r.each
+  each = r.each;
 }
 
 pub poll_keeps : (e : End) (out : List ℕ) → end_keeps e ≡ true → end_keeps (polled e out) ≡ true
@@ -139,6 +152,7 @@ poll_keeps e out h = go (cases_eq e.running 0) (cases_eq (outstanding e.vt) 8388
   where
     ruled : judged e ≡ Ok tt
     ruled = rw h refl
+
     go : ((e.running ≡ 0) ⊎ (e.running ≢ 0)) → ((outstanding e.vt ≡ 8388607) ⊎ (outstanding e.vt ≢ 8388607)) → ((length out < length (poll_pdu e)) ⊎ (length (poll_pdu e) ≤ length out)) → end_keeps (polled e out) ≡ true
     go (inl a) _ _ = rw (ruled, eq-eqb e.running 0 a) h
     go (inr a) (inl b) _ = rw (ruled, ne_eqb e.running 0 a, eq-eqb (outstanding e.vt) 8388607 b) h
@@ -184,28 +198,44 @@ send_vt p v i params r in_sent in_kept pd = go (cases_eq i (sent v))
   where
     long : p.keep ≤ length (change_at (stamped v.ps) (onward p.keep v.first i) v.entries.now)
     long = let before = r.entries_long in rw length-change_at before
+
     one_more : i ≡ sent v → ahead modulus (onward modulus v.s.0 1) v.a.0 ≡ sent v + 1
     one_more e = let few = r.kept in let some = params.keep in ahead_more modulus (omega arith) v.s.0 v.a.0 1 r.s r.a (omega arith)
+
     go : ((i ≡ sent v) ⊎ (i ≢ sent v)) → IsReadyVt p (send_once p i v)
     go (inl e) = rw (eq-eqb i (sent v) e) (record {
-      entries_long = long; bytes_long = r.bytes_long;
-      s = onward-lt modulus (omega arith) v.s.0 1; a = r.a; ms = r.ms; ps = r.ps; pa = r.pa;
+      entries_long = long;
+      bytes_long = r.bytes_long;
+      s = onward-lt modulus (omega arith) v.s.0 1;
+      a = r.a;
+      ms = r.ms;
+      ps = r.ps;
+      pa = r.pa;
       kept = r.kept;
       sent_kept = rw (one_more e) (omega arith);
-      first = r.first; few_outstanding = r.few_outstanding;
+      first = r.first;
+      few_outstanding = r.few_outstanding;
       pd = omega arith;
       each = rw (one_more e) (entries_changed p v (stamped v.ps) i (sent v + 1) v.kept r (let kept = r.kept in omega arith)
-        (λ j x l m rule. grind (arith, nat_tests))
-        (λ x rule. let ps = r.ps in grind (arith, nat_tests)))
+          (λ j x l m rule. grind (arith, nat_tests))
+          (λ x rule. let ps = r.ps in grind (arith, nat_tests)));
     })
     go (inr n) = rw (ne_eqb i (sent v) n) (record {
-      entries_long = long; bytes_long = r.bytes_long;
-      s = r.s; a = r.a; ms = r.ms; ps = r.ps; pa = r.pa;
-      kept = r.kept; sent_kept = r.sent_kept; first = r.first; few_outstanding = r.few_outstanding;
+      entries_long = long;
+      bytes_long = r.bytes_long;
+      s = r.s;
+      a = r.a;
+      ms = r.ms;
+      ps = r.ps;
+      pa = r.pa;
+      kept = r.kept;
+      sent_kept = r.sent_kept;
+      first = r.first;
+      few_outstanding = r.few_outstanding;
       pd = omega arith;
       each = entries_changed p v (stamped v.ps) i (sent v) v.kept r (let kept = r.kept in omega arith)
-        (λ j x l m rule. rule)
-        (λ x rule. let ps = r.ps in grind (arith, nat_tests))
+          (λ j x l m rule. rule)
+          (λ x rule. let ps = r.ps in grind (arith, nat_tests));
     })
 
 pub send_keeps : (e : End) (out : List ℕ) → end_keeps e ≡ true → end_keeps (sent_end e out) ≡ true
@@ -213,6 +243,7 @@ send_keeps e out h = go (cases_eq e.running 0) (next_message e.params e.vt) refl
   where
     ruled : judged e ≡ Ok tt
     ruled = rw h refl
+
     this : (i : ℕ) → next_message e.params e.vt ≡ Ok i → e.running ≢ 0 → ((e.vt.pd ≡ e.params.maxpd) ⊎ (e.vt.pd ≢ e.params.maxpd)) → ((length out < length (sd_of e.params e.vt i)) ⊎ (length (sd_of e.params e.vt i) ≤ length out)) → end_keeps (sent_end e out) ≡ true
     this i q a (inl b) _ = rw (ruled, ne_eqb e.running 0 a, q, eq-eqb e.vt.pd e.params.maxpd b) h
     this i q a (inr b) (inl c) = rw (ruled, ne_eqb e.running 0 a, q, ne_eqb e.vt.pd e.params.maxpd b, lt-ltb (length out) (length (sd_of e.params e.vt i)) c) h
@@ -222,6 +253,7 @@ send_keeps e out h = go (cases_eq e.running 0) (next_message e.params e.vt) refl
         let (in_sent, in_kept) = next_kept e.params e.vt i facts.vt q in
         rw (ruled, ne_eqb e.running 0 a, q, ne_eqb e.vt.pd e.params.maxpd b, le-ltb (length out) (length (sd_of e.params e.vt i)) c)
         (vt_changed e (send_once e.params i e.vt) h (send_vt e.params e.vt i facts.params facts.vt in_sent in_kept (omega arith)))
+
     go : ((e.running ≡ 0) ⊎ (e.running ≢ 0)) → (m : Result ℕ Refusal) → next_message e.params e.vt ≡ m → end_keeps (sent_end e out) ≡ true
     go (inl a) m q = rw (ruled, eq-eqb e.running 0 a) h
     go (inr a) (Err r) q = rw (ruled, ne_eqb e.running 0 a, q) h
