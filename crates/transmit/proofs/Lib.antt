@@ -1,3 +1,4 @@
 pub mod InRange
 pub mod Keeps
+pub mod Settled
 pub mod Stores
