@@ -1,0 +1,3 @@
+pub mod Keeps
+pub mod Settled
+pub mod Stores

@@ -1,0 +1,4 @@
+pub mod Opening
+pub mod Ready
+pub mod Ring
+pub mod Rules

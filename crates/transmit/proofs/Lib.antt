@@ -1,0 +1,4 @@
+pub mod InRange
+pub mod Keeps
+pub mod Settled
+pub mod Stores

@@ -1,0 +1,4 @@
+pub mod Polling
+pub mod Sending
+pub mod Store
+pub mod Submit
