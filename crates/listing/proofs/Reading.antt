@@ -1,0 +1,53 @@
+-- One byte more: what a reader has read then.
+use Rattle.std.proofs.Common.{◌≡◌, ℕ, ◌+◌, ◌*◌, ◌/◌, ◌%◌, ◌<◌, ◌≤◌, Bool, true, false, cond, eqb, List, [], ◌∷◌, ◌++◌, length, get_or, drop, Some, None, sym, refl, ap, ◌∙◌, append_assoc, append-nil, arith, rules, length-append}
+use Rattle.std.specs.List.{flat_map}
+use Rattle.std.specs.Option.{option_to_list}
+use Rattle.std.specs.Prelude.{All}
+use Rattle.std.proofs.lemmas.Bool.{eqb-true, eqb-false}
+use Rattle.std.proofs.lemmas.List.Concat.{flat_map-append}
+use Rattle.std.proofs.lemmas.List.Elements.{All-push}
+use Rattle.listing.specs.Records.{framed, record_len, IsPartial, IsRecord, Splits, record_of, rest_of}
+
+-- a record behind its length, as it was
+pub framed_drop : (q : List ℕ) → ((i : ℕ) → get_or q i 0 < 256) → length q ≡ 2 + record_len q → framed (drop 2 q) ≡ q
+framed_drop [] fits e = absurd (omega arith)
+framed_drop (h ∷ []) fits e = absurd (omega arith)
+framed_drop (h ∷ l ∷ r) fits e =
+    let high : length r / 256 ≡ h = omega (arith, fits 0, fits 1) in
+    let low : length r % 256 ≡ l = omega (arith, fits 0, fits 1) in
+    rw (high, low) refl
+
+-- a byte more takes nothing from the length
+pub record_len-push : (rest : List ℕ) (b : ℕ) → record_len rest ≤ record_len (rest ++ (b ∷ []))
+record_len-push [] b = omega arith
+record_len-push (h ∷ []) b = omega arith
+record_len-push (h ∷ l ∷ r) b = omega arith
+
+-- a byte more completes a record at most
+pub length-push-le : (rest : List ℕ) (b : ℕ) → IsPartial rest → length (rest ++ (b ∷ [])) ≤ 2 + record_len (rest ++ (b ∷ []))
+length-push-le rest b h = omega (arith, record_len-push rest b, length-append rest (b ∷ []))
+
+length-drop2 : (q : List ℕ) → ((i : ℕ) → get_or q i 0 < 256) → length q ≡ 2 + record_len q → IsRecord (drop 2 q)
+length-drop2 [] fits e = absurd (omega arith)
+length-drop2 (h ∷ []) fits e = absurd (omega arith)
+length-drop2 (h ∷ l ∷ r) fits e = omega (arith, fits 0, fits 1)
+
+module _ (bytes rest : List ℕ) (records : List (List ℕ)) (b : ℕ) where
+  next_by : (t : Bool) → ((i : ℕ) → get_or (rest ++ (b ∷ [])) i 0 < 256) → Splits bytes records rest → eqb (length (rest ++ (b ∷ []))) (2 + record_len (rest ++ (b ∷ []))) ≡ t
+      → Splits (bytes ++ (b ∷ [])) (records ++ option_to_list (cond t (Some (drop 2 (rest ++ (b ∷ [])))) None)) (cond t [] (rest ++ (b ∷ [])))
+  next_by true fits h e =
+      let full : length (rest ++ (b ∷ [])) ≡ 2 + record_len (rest ++ (b ∷ [])) = eqb-true _ _ e in
+      let last : framed (drop 2 (rest ++ (b ∷ []))) ≡ rest ++ (b ∷ []) = framed_drop (rest ++ (b ∷ [])) fits full in
+      record {
+        whole =
+            let together : flat_map framed (records ++ (drop 2 (rest ++ (b ∷ [])) ∷ [])) ≡ flat_map framed records ++ (rest ++ (b ∷ [])) =
+            rw flat_map-append (ap (λ (x : List ℕ). flat_map framed records ++ x) (append-nil _ ∙ last)) in
+            rw (append-nil (flat_map framed (records ++ (drop 2 (rest ++ (b ∷ [])) ∷ []))), together, h.whole) (append_assoc (flat_map framed records) rest (b ∷ []));
+        each = All-push IsRecord records (drop 2 (rest ++ (b ∷ []))) h.each (length-drop2 _ fits full);
+        partial = omega arith;
+      }
+  next_by false fits h e = record {
+    whole = rw (append-nil records, h.whole) (append_assoc (flat_map framed records) rest (b ∷ []));
+    each = rw (append-nil records) h.each;
+    partial = omega (arith, eqb-false _ _ e, length-push-le rest b h.partial);
+  }

@@ -1,0 +1,8 @@
+// Trace files: their records, and the lines that list them. A tool for a desk, which no line card runs: it has a heap.
+#![tactic(auto)]
+
+mod line;
+mod reader;
+
+pub use line::push_line;
+pub use reader::RecordReader;
