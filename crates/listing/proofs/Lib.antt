@@ -1,2 +1,3 @@
 pub mod Elements
+pub mod Listed
 pub mod Reading

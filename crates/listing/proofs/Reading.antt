@@ -1,11 +1,11 @@
 -- One byte more: what a reader has read then.
-use Rattle.std.proofs.Common.{◌≡◌, ℕ, ◌+◌, ◌*◌, ◌/◌, ◌%◌, ◌<◌, ◌≤◌, Bool, true, false, cond, eqb, List, [], ◌∷◌, ◌++◌, length, get_or, drop, Some, None, sym, refl, ap, ◌∙◌, append_assoc, append-nil, arith, rules, length-append}
+use Rattle.std.proofs.Common.{◌≡◌, ℕ, ◌+◌, ◌*◌, ◌/◌, ◌%◌, ◌<◌, ◌≤◌, Bool, true, false, cond, eqb, List, [], ◌∷◌, ◌++◌, length, get_or, drop, Some, None, sym, refl, ap, ◌∙◌, append_assoc, append-nil, arith, zero, suc, length-append}
 use Rattle.std.specs.List.{flat_map}
 use Rattle.std.specs.Option.{option_to_list}
 use Rattle.std.specs.Prelude.{All}
 use Rattle.std.proofs.lemmas.Bool.{eqb-true, eqb-false}
 use Rattle.std.proofs.lemmas.List.Concat.{flat_map-append}
-use Rattle.std.proofs.lemmas.List.Elements.{All-push}
+use Rattle.std.proofs.lemmas.List.Elements.{All-nil, All-push, All-tail}
 use Rattle.listing.specs.Records.{framed, record_len, IsPartial, IsRecord, Splits, record_of, rest_of}
 
 -- a record behind its length, as it was
@@ -51,3 +51,27 @@ module _ (bytes rest : List ℕ) (records : List (List ℕ)) (b : ℕ) where
     each = rw (append-nil records) h.each;
     partial = omega (arith, eqb-false _ _ e, length-push-le rest b h.partial);
   }
+
+-- bytes, and 0 past their end
+bytes_or_zero : (q : List ℕ) → All (λ b. b < 256) q → (i : ℕ) → get_or q i 0 < 256
+bytes_or_zero [] all i = omega arith
+bytes_or_zero (x ∷ q) all zero = all 0 0 (omega arith)
+bytes_or_zero (x ∷ q) all (suc i) = bytes_or_zero q (All-tail (λ b. b < 256) x q all) i
+
+-- what is kept, by whether a whole record was held
+pub rest_of-whole : (old : List ℕ) → eqb (length old) (2 + record_len old) ≡ true → rest_of old ≡ []
+rest_of-whole old h = rw h refl
+
+pub rest_of-not_whole : (old : List ℕ) → eqb (length old) (2 + record_len old) ≡ false → rest_of old ≡ old
+rest_of-not_whole old h = rw h refl
+
+kept : (t : Bool) (old : List ℕ) → All (λ b. b < 256) old → All (λ b. b < 256) (cond t [] old)
+kept true old all = All-nil (λ b. b < 256)
+kept false old all = all
+
+-- what a reader that held old holds with one byte more
+pub one_byte_more : (old kept q : List ℕ) (b : ℕ) → kept ≡ rest_of old → q ≡ kept ++ (b ∷ []) → b < 256 → All (λ x. x < 256) old → (bytes : List ℕ) (records : List (List ℕ)) → Splits bytes records (rest_of old) → Splits (bytes ++ (b ∷ [])) (records ++ option_to_list (record_of q)) (rest_of q)
+one_byte_more old before q b k e fits all bytes records h =
+    let here : q ≡ rest_of old ++ (b ∷ []) = rw k at e in
+    let each = All-push (λ x. x < 256) (rest_of old) b (kept (eqb (length old) (2 + record_len old)) old all) fits in
+    rw here (next_by bytes (rest_of old) records b (eqb (length (rest_of old ++ (b ∷ []))) (2 + record_len (rest_of old ++ (b ∷ [])))) (bytes_or_zero _ each) h refl)

@@ -2,7 +2,9 @@
 #![tactic(auto)]
 
 mod line;
+mod listing;
 mod reader;
 
 pub use line::push_line;
+pub use listing::Listing;
 pub use reader::RecordReader;

@@ -57,7 +57,7 @@ fn push_stat(text: &mut String, stat: Stat, bytes: &[u8]) -> Result<(), AllocErr
 }
 
 /// Adds the line of a record with these bytes.
-#[tactic(auto, using(crate::proofs::Elements::stat_count), unfolding(pdu::specs::Decoding::decode_of))]
+#[tactic(auto, unfolding(pdu::specs::Decoding::decode_of))]
 pub fn push_line(text: &mut String, bytes: &[u8]) -> Result<(), AllocError>
     ensures { OnOk result (string_bytes text.new ≡ string_bytes text.old ++ line_of bytes.now) }
 {

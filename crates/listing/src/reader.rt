@@ -1,6 +1,6 @@
-ghost use Rattle.std.specs.Prelude.{◌≡◌, ℕ, List, [], ◌∷◌, ◌++◌, OnOk};
+ghost use Rattle.std.specs.Prelude.{◌≡◌, ℕ, ◌+◌, ◌<◌, ◌==◌, not, List, [], ◌∷◌, ◌++◌, length, All, OnOk};
 ghost use Rattle.std.specs.Option.{option_map, option_to_list};
-ghost use Rattle.listing.specs.Records.{Splits, record_of, rest_of};
+ghost use Rattle.listing.specs.Records.{Splits, record_len, record_of, rest_of};
 
 use std::alloc::{AllocError, Global};
 use std::marker::Model;
@@ -16,6 +16,8 @@ impl Model for RecordReader {
     ghost Value = { List ℕ };
 
     ghost view = { λ r. r.bytes.items };
+
+    ghost invariant = { λ r. All (λ b. b < 256) r.bytes.items };
 }
 
 impl RecordReader {
@@ -28,18 +30,32 @@ impl RecordReader {
         }
     }
 
-    /// The record that the last byte completed.
+    // The last byte completed a record.
+    fn is_whole(&self) -> bool
+        ensures { result ≡ (length self.now == 2 + record_len self.now) }
+    {
+        match self.bytes.as_slice() {
+            [high, low, pdu @ ..] => pdu.len() == usize::from(*high) * 256 + usize::from(*low),
+            _ => false,
+        }
+    }
+
+    /// The PDU bytes of the record that the last byte completed.
     pub fn record(&self) -> Option<&[u8]>
         ensures { option_map (λ r. r.now) result ≡ record_of self.now }
     {
-        let [high, low, record @ ..] = self.bytes.as_slice() else {
-            return None;
-        };
-        if record.len() == usize::from(*high) * 256 + usize::from(*low) {
-            Some(record)
+        if self.is_whole() {
+            Some(&self.bytes[2..])
         } else {
             None
         }
+    }
+
+    /// A record or its length is cut short, if no byte follows.
+    pub fn is_cut(&self) -> bool
+        ensures { result ≡ not (length (rest_of self.now) == 0) }
+    {
+        !self.bytes.is_empty() && !self.is_whole()
     }
 
     /// Reads the next byte.
@@ -48,7 +64,7 @@ impl RecordReader {
         ensures { OnOk result ((bytes : List ℕ) (records : List (List ℕ)) → Splits bytes records (rest_of self.old)
             → Splits (bytes ++ byte ∷ []) (records ++ option_to_list (record_of self.new)) (rest_of self.new)) }
     {
-        if self.record().is_some() {
+        if self.is_whole() {
             self.bytes.clear();
         }
         self.bytes.push(byte)?;
