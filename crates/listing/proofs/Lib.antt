@@ -1,3 +1,4 @@
 pub mod Elements
 pub mod Listed
 pub mod Reading
+pub mod Running

@@ -4,7 +4,9 @@
 mod line;
 mod listing;
 mod reader;
+mod run;
 
 pub use line::push_line;
 pub use listing::Listing;
 pub use reader::RecordReader;
+pub use run::list;
