@@ -1,4 +1,6 @@
 pub mod Elements
+pub mod Ended
 pub mod Listed
 pub mod Reading
+pub mod Readings
 pub mod Running

@@ -1,14 +1,13 @@
 -- What is listed, with one byte more.
 use Rattle.std.proofs.Common.{◌≡◌, ℕ, ◌+◌, ◌<◌, ◌≤◌, Bool, true, false, cond, eqb, List, [], ◌∷◌, ◌++◌, length, get_or, take, drop, Option, Some, None, sym, refl, ap, ◌∙◌, subst, append_assoc, append-nil, arith, length-append}
 use Rattle.std.specs.List.{flat_map}
-use Rattle.std.specs.Option.{option_to_list, option_eq}
-use Rattle.std.specs.Prelude.{codes, not}
+use Rattle.std.specs.Option.{option_to_list}
 use Rattle.std.proofs.lemmas.Bool.{eqb-true}
 use Rattle.std.proofs.lemmas.List.{take_more, take_all}
 use Rattle.std.proofs.lemmas.List.Concat.{flat_map-append}
-use Rattle.listing.specs.Line.{line, line_of}
+use Rattle.listing.specs.Line.{line_of}
 use Rattle.listing.specs.Records.{Splits, record_of, rest_of}
-use Rattle.listing.specs.Listing.{is_version_1, listed_part, HasLines, HasListed, IsListing}
+use Rattle.listing.specs.Listing.{is_version_1, listed_part, HasLines, HasListed}
 use Rattle.listing.specs.declared.listing.Listing.{Listing}
 
 flat_map-push : (f : List ℕ → List ℕ) (rs : List (List ℕ)) (r : List ℕ) → flat_map f (rs ++ (r ∷ [])) ≡ flat_map f rs ++ f r
@@ -65,11 +64,3 @@ other_version (v ∷ file) listing text other h = by_version (eqb v 1) refl
     by_version : (t : Bool) → eqb v 1 ≡ t → (is_version_1 (v ∷ file) ≡ false) × (text ≡ [])
     by_version true e = absurd (other (h.version ∙ ap Some (eqb-true v 1 e)))
     by_version false e = (e, nothing_listed listing text (rw e at h.lines))
-
-pub only_version : (listing : Listing) (old new : List ℕ) → not (option_eq eqb listing.version (Some 1)) ≡ true → new ≡ old ++ line (codes "VERSION") [] → (file printed : List ℕ) → HasListed file listing (printed ++ old) → IsListing file (printed ++ new)
-only_version listing old new t e file printed h =
-    let other : listing.version ≡ Some 1 → ⊥ = λ is. let f : not (option_eq eqb (Some 1) (Some 1)) ≡ true = rw is at t in cc in
-    let found = other_version file listing (printed ++ old) other h in
-    let text : printed ++ new ≡ line (codes "VERSION") [] =
-    ap (λ (x : List ℕ). printed ++ x) e ∙ sym (append_assoc printed old (line (codes "VERSION") [])) ∙ ap (λ (x : List ℕ). x ++ line (codes "VERSION") []) found.1 in
-    rw found.0 text

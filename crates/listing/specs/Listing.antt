@@ -13,11 +13,12 @@ is_version_1 (version ∷ bytes) = version == 1
 abbrev pub last_lines : List (List ℕ) → List ℕ → List ℕ
 last_lines records rest = (if length rest == 0 then [] else line (codes "CUT") []) ++ line (codes "END") (length records ∷ [])
 
--- a line for each record that stands whole in these bytes, and the last lines
+-- a line for each record that stands whole in these bytes, and the last lines; the bytes say in one way only which records they are
 pub record IsListingOfRecords (bytes text : List ℕ) : Type 0 where
   pub records : List (List ℕ)
   pub rest : List ℕ
   pub split : Splits bytes records rest
+  pub only : (others : List (List ℕ)) (other : List ℕ) → Splits bytes others other → (others ≡ records) × (other ≡ rest)
   pub lines : text ≡ flat_map line_of records ++ last_lines records rest
 
 -- "Another version or empty input: only `VERSION`"
