@@ -9,7 +9,7 @@ use std::alloc::{AllocError, Global};
 use std::io::{self, Write};
 
 // A name, and a file.
-const CASES: [(&str, &[u8]); 18] = [
+const CASES: &[(&str, &[u8])] = &[
     (
         "the example",
         b"\x01\0\x08AB\0\0\x88\0\0\x05\0\x08\0\0\0\x01\x0a\0\0\x02\0\x02AB",
@@ -122,7 +122,7 @@ fn longest_file(alloc: Global) -> Result<Vec<u8>, AllocError> {
 }
 
 fn main(rt: HostRuntime) -> io::Result<()> {
-    for (name, file) in CASES {
+    for &(name, file) in CASES {
         print_case(&rt, name, file)?;
     }
     let alloc = rt.alloc();

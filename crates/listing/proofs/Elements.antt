@@ -1,5 +1,5 @@
 -- The list elements of a STAT: as many as its count, and each.
-use Rattle.std.proofs.Common.{◌≡◌, ℕ, ◌+◌, ◌-◌, ◌%◌, ◌<◌, ◌≤◌, Bool, true, false, cond, List, [], ◌∷◌, ◌++◌, length, get_or, take, eqb, leb, Option, Some, None, Result, Ok, Err, sym, refl, ap, subst, append_assoc, arith}
+use Rattle.std.proofs.Common.{◌≡◌, ℕ, ◌+◌, ◌-◌, ◌%◌, ◌<◌, Bool, true, false, cond, List, [], ◌∷◌, ◌++◌, length, get_or, take, eqb, leb, Option, Some, None, Result, Ok, Err, sym, ap, subst, append_assoc}
 use Rattle.std.specs.Prelude.{slice_get, slice_index, nat_lt, not, ◌||◌}
 use Rattle.std.specs.Option.{option_map}
 use Rattle.std.specs.List.{flat_map}
@@ -15,7 +15,6 @@ use Rattle.pdu.specs.declared.refusal.Refusal.TheVariants.{Length, TypeZero, Oth
 use Rattle.pdu.specs.declared.sd.Sd.{Sd}
 use Rattle.pdu.specs.declared.decoding.Pdu.{Pdu}
 use Rattle.pdu.specs.declared.stat.Stat.{Stat}
-use Rattle.pdu.specs.declared.decoding.Pdu.TheVariants as Pdu
 use Rattle.pdu.proofs.Elements.{length-elements_of}
 
 -- a STAT's count is that of its list elements
@@ -50,9 +49,11 @@ count_fits k bs =
     let no_pdu : Bool = nat_lt (length bs) 4 || not (eqb (length bs % 4) 0) in
     refusal_fits bs (nat_lt 4096 k) Rules (cond no_pdu (Pdu.Refused Length) (pdu_of_type k type bs)) (refusal_fits bs no_pdu Length (pdu_of_type k type bs) (type_fits bs k type))
 
+-- of a STAT that was decoded from these bytes
 pub stat_count : (k : ℕ) (bs : List ℕ) (p : Stat) → Pdu.Stat p ≡ decode_of k bs → p.count ≡ length (elements_of bs)
 stat_count k bs p e = subst (CountFits bs) (sym e) (count_fits k bs)
 
+-- the word in what it gave
 abbrev word_of : Option SeqNo → ℕ
 word_of (Some p) = p.0
 word_of None = 0
@@ -64,5 +65,6 @@ text_more text before now es i n h e b s =
     let more : flat_map item (take (i + 1) es) ≡ flat_map item (take i es) ++ flat_map item (n ∷ []) = rw (take_more es i 0 h, same) (flat_map-append item (take i es) (get_or es i 0 ∷ [])) in
     rw (more, s, b) (append_assoc text (flat_map item (take i es)) (flat_map item (n ∷ [])))
 
+-- it gives one at each index below the count
 pub no_element : (es : List ℕ) (i : ℕ) → i < length es → None ≡ option_map seq_no (slice_get es i) → ⊥
 no_element es i h e = let f : None ≡ Some (seq_no (get_or es i 0)) = rw (slice_get-get_or es i 0 h) at e in cc

@@ -5,8 +5,8 @@ use Rattle.std.specs.List.{flat_map}
 use Rattle.std.specs.Option.{option_eq}
 use Rattle.std.proofs.lemmas.Bool.{eqb-true}
 use Rattle.listing.specs.Line.{line, line_of}
-use Rattle.listing.specs.Records.{Splits, rest_of}
-use Rattle.listing.specs.Listing.{is_version_1, last_lines, HasLines, HasListed, IsListing, IsListingOfRecords}
+use Rattle.listing.specs.Records.{rest_of}
+use Rattle.listing.specs.Listing.{HasLines, HasListed, IsListing, IsListingOfRecords}
 use Rattle.listing.specs.declared.listing.Listing.{Listing}
 use Rattle.listing.proofs.Listed.{other_version}
 use Rattle.listing.proofs.Readings.{one_reading}

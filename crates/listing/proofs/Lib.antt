@@ -1,3 +1,4 @@
+pub mod Cases
 pub mod Elements
 pub mod Ended
 pub mod Listed

@@ -1,5 +1,5 @@
 -- What is listed, with one byte more.
-use Rattle.std.proofs.Common.{◌≡◌, ℕ, ◌+◌, ◌<◌, ◌≤◌, Bool, true, false, cond, eqb, List, [], ◌∷◌, ◌++◌, length, get_or, take, drop, Option, Some, None, sym, refl, ap, ◌∙◌, subst, append_assoc, append-nil, arith, length-append}
+use Rattle.std.proofs.Common.{◌≡◌, ℕ, ◌+◌, ◌<◌, ◌≤◌, Bool, true, false, eqb, List, [], ◌∷◌, ◌++◌, length, get_or, take, Option, Some, None, sym, refl, ap, ◌∙◌, subst, append_assoc, append-nil, arith, length-append}
 use Rattle.std.specs.List.{flat_map}
 use Rattle.std.specs.Option.{option_to_list}
 use Rattle.std.proofs.lemmas.Bool.{eqb-true}
@@ -7,7 +7,7 @@ use Rattle.std.proofs.lemmas.List.{take_more, take_all}
 use Rattle.std.proofs.lemmas.List.Concat.{flat_map-append}
 use Rattle.listing.specs.Line.{line_of}
 use Rattle.listing.specs.Records.{Splits, record_of, rest_of}
-use Rattle.listing.specs.Listing.{is_version_1, listed_part, HasLines, HasListed}
+use Rattle.listing.specs.Listing.{is_version_1, HasLines, HasListed}
 use Rattle.listing.specs.declared.listing.Listing.{Listing}
 
 flat_map-push : (f : List ℕ → List ℕ) (rs : List (List ℕ)) (r : List ℕ) → flat_map f (rs ++ (r ∷ [])) ≡ flat_map f rs ++ f r

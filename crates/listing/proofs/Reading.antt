@@ -1,5 +1,5 @@
 -- One byte more: what a reader has read then.
-use Rattle.std.proofs.Common.{◌≡◌, ℕ, ◌+◌, ◌*◌, ◌/◌, ◌%◌, ◌<◌, ◌≤◌, Bool, true, false, cond, eqb, List, [], ◌∷◌, ◌++◌, length, get_or, drop, Some, None, sym, refl, ap, ◌∙◌, append_assoc, append-nil, arith, zero, suc, length-append}
+use Rattle.std.proofs.Common.{◌≡◌, ℕ, ◌+◌, ◌/◌, ◌%◌, ◌<◌, ◌≤◌, Bool, true, false, cond, eqb, List, [], ◌∷◌, ◌++◌, length, get_or, drop, Some, None, refl, ap, ◌∙◌, append_assoc, append-nil, arith, zero, suc, length-append}
 use Rattle.std.specs.List.{flat_map}
 use Rattle.std.specs.Option.{option_to_list}
 use Rattle.std.specs.Prelude.{All}
@@ -27,12 +27,14 @@ record_len-push (h ∷ l ∷ r) b = omega arith
 pub length-push-le : (rest : List ℕ) (b : ℕ) → IsPartial rest → length (rest ++ (b ∷ [])) ≤ 2 + record_len (rest ++ (b ∷ []))
 length-push-le rest b h = omega (arith, record_len-push rest b, length-append rest (b ∷ []))
 
+-- its length is what two bytes hold
 length-drop2 : (q : List ℕ) → ((i : ℕ) → get_or q i 0 < 256) → length q ≡ 2 + record_len q → IsRecord (drop 2 q)
 length-drop2 [] fits e = absurd (omega arith)
 length-drop2 (h ∷ []) fits e = absurd (omega arith)
 length-drop2 (h ∷ l ∷ r) fits e = omega (arith, fits 0, fits 1)
 
 module _ (bytes rest : List ℕ) (records : List (List ℕ)) (b : ℕ) where
+  -- the cases of what is whole now
   next_by : (t : Bool) → ((i : ℕ) → get_or (rest ++ (b ∷ [])) i 0 < 256) → Splits bytes records rest → eqb (length (rest ++ (b ∷ []))) (2 + record_len (rest ++ (b ∷ []))) ≡ t
       → Splits (bytes ++ (b ∷ [])) (records ++ option_to_list (cond t (Some (drop 2 (rest ++ (b ∷ [])))) None)) (cond t [] (rest ++ (b ∷ [])))
   next_by true fits h e =
@@ -40,9 +42,10 @@ module _ (bytes rest : List ℕ) (records : List (List ℕ)) (b : ℕ) where
       let last : framed (drop 2 (rest ++ (b ∷ []))) ≡ rest ++ (b ∷ []) = framed_drop (rest ++ (b ∷ [])) fits full in
       record {
         whole =
-            let together : flat_map framed (records ++ (drop 2 (rest ++ (b ∷ [])) ∷ [])) ≡ flat_map framed records ++ (rest ++ (b ∷ [])) =
-            rw flat_map-append (ap (λ (x : List ℕ). flat_map framed records ++ x) (append-nil _ ∙ last)) in
-            rw (append-nil (flat_map framed (records ++ (drop 2 (rest ++ (b ∷ [])) ∷ []))), together, h.whole) (append_assoc (flat_map framed records) rest (b ∷ []));
+            let pdu = drop 2 (rest ++ (b ∷ [])) in
+            let together : flat_map framed (records ++ (pdu ∷ [])) ≡ flat_map framed records ++ (rest ++ (b ∷ [])) =
+            flat_map-append framed records (pdu ∷ []) ∙ ap (λ (x : List ℕ). flat_map framed records ++ x) (append-nil (framed pdu) ∙ last) in
+            rw (append-nil (flat_map framed (records ++ (pdu ∷ []))), together, h.whole) (append_assoc (flat_map framed records) rest (b ∷ []));
         each = All-push IsRecord records (drop 2 (rest ++ (b ∷ []))) h.each (length-drop2 _ fits full);
         partial = omega arith;
       }
@@ -65,6 +68,7 @@ rest_of-whole old h = rw h refl
 pub rest_of-not_whole : (old : List ℕ) → eqb (length old) (2 + record_len old) ≡ false → rest_of old ≡ old
 rest_of-not_whole old h = rw h refl
 
+-- what is kept are bytes
 kept : (t : Bool) (old : List ℕ) → All (λ b. b < 256) old → All (λ b. b < 256) (cond t [] old)
 kept true old all = All-nil (λ b. b < 256)
 kept false old all = all

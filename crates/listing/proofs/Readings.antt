@@ -1,8 +1,8 @@
 -- Bytes split into records and a rest in one way.
-use Rattle.std.proofs.Common.{◌≡◌, ℕ, ◌+◌, ◌*◌, ◌/◌, ◌%◌, ◌<◌, ◌≤◌, List, [], ◌∷◌, ◌++◌, length, get_or, take, drop, refl, sym, ap, ◌∙◌, append_assoc, arith, length-append}
+use Rattle.std.proofs.Common.{◌≡◌, ℕ, ◌/◌, ◌%◌, List, [], ◌∷◌, ◌++◌, length, get_or, take, drop, refl, sym, ap, ◌∙◌, append_assoc, arith, length-append}
 use Rattle.std.specs.List.{flat_map}
 use Rattle.std.proofs.lemmas.List.{take_at, drop_at}
-use Rattle.listing.specs.Records.{framed, record_len, IsPartial, IsRecord, Splits}
+use Rattle.listing.specs.Records.{framed, IsPartial, Splits}
 
 -- what begins with a record is not less than one
 whole_first : (r more : List ℕ) → IsPartial (framed r ++ more) → ⊥

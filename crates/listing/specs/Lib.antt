@@ -1,3 +1,4 @@
+pub mod Cases
 pub mod Line
 pub mod Listing
 pub mod Records

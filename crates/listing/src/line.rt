@@ -56,7 +56,7 @@ fn push_stat(text: &mut String, stat: Stat, bytes: &[u8]) -> Result<(), AllocErr
     text.push('\n')
 }
 
-/// Adds the line of a record with these bytes.
+/// Adds the line of a record with these bytes. On an `Err` the text may have got a front of it.
 #[tactic(auto, unfolding(pdu::specs::Decoding::decode_of))]
 pub fn push_line(text: &mut String, bytes: &[u8]) -> Result<(), AllocError>
     ensures { OnOk result (string_bytes text.new ≡ string_bytes text.old ++ line_of bytes.now) }

@@ -4,16 +4,13 @@ use crate::RecordReader;
 use crate::line::{push_line, push_words};
 use std::alloc::{AllocError, Global};
 
-/// Lists a file, whose bytes come in any pieces.
+/// Lists a file, whose bytes come in any pieces. After an `Err` it says nothing more of the file.
 #[derive(Drop)]
 pub struct Listing {
     version: Option<u8>,
     reader: RecordReader,
     count: u64,
 }
-
-// The one version of files that is listed.
-const VERSION: u8 = 1;
 
 impl Listing {
     ghost use Rattle.listing.specs.Listing.{HasLines, HasListed, IsListing};
@@ -53,7 +50,7 @@ impl Listing {
                 self.version = Some(byte);
                 Ok(())
             }
-            Some(VERSION) => self.push_byte(byte, text),
+            Some(RecordReader::VERSION) => self.push_byte(byte, text),
             Some(_) => Ok(()),
         }
     }
@@ -75,7 +72,7 @@ impl Listing {
         ensures { OnOk result ((file printed : List ℕ) → HasListed file self.now (printed ++ string_bytes text.old)
             → IsListing file (printed ++ string_bytes text.new)) }
     {
-        if self.version != Some(VERSION) {
+        if self.version != Some(RecordReader::VERSION) {
             return push_words(text, "VERSION", &[]);
         }
         if self.reader.is_cut() {

@@ -5,7 +5,7 @@ ghost use Rattle.listing.specs.Records.{Splits, record_len, record_of, rest_of};
 use std::alloc::{AllocError, Global};
 use std::marker::Model;
 
-/// Reads the records of a version 1 file, a byte at a time.
+/// Reads the records of a version 1 file, which stand behind its version byte, a byte at a time. After an `Err` it says nothing more of them.
 #[derive(Drop)]
 pub struct RecordReader {
     // The record that is being read, or that the last byte completed, behind its length.
@@ -21,6 +21,9 @@ impl Model for RecordReader {
 }
 
 impl RecordReader {
+    /// The version of the files that it reads, their first byte.
+    pub const VERSION: u8 = 1;
+
     /// A reader that has read nothing.
     pub fn new(alloc: Global) -> RecordReader
         ensures { result ≡ [] }

@@ -8,6 +8,7 @@ use std::io::{self, ErrorKind, Read, Write};
 // How much is read at once, at most.
 const PIECE: usize = 65_536;
 
+// Zeros, at least one.
 fn zeros(alloc: Global, n: usize) -> Result<Vec<u8>, AllocError>
     requires { 0 < n }
     ensures { IfOk result (λ v. 0 < vec_len v) }
@@ -15,7 +16,7 @@ fn zeros(alloc: Global, n: usize) -> Result<Vec<u8>, AllocError>
     vec![in alloc; 0; n]
 }
 
-// The same with this memory for what is read at once.
+// As `list`, with this memory for what is read at once.
 fn list_by<R: Read, W: Write>(
     alloc: Global,
     input: &mut R,
@@ -42,10 +43,11 @@ fn list_by<R: Read, W: Write>(
             Err(e) => return Err(e),
         }
     }
+    // 2^64 reads, and no end.
     Err(io::Error::from(ErrorKind::FileTooLarge))
 }
 
-/// Reads a file to its end and writes its listing.
+/// Reads a file to its end and writes its listing. On an `Err` a front of it may have been written.
 pub fn list<R: Read, W: Write>(alloc: Global, input: &mut R, output: &mut W) -> io::Result<()>
     // Whatever sizes the reads come in.
     ensures { OnOk result (IfSome (R.remaining input.old) (λ file. WritesListing file (W.contents output.old) (W.contents output.new))) }

@@ -1,4 +1,4 @@
-use Rattle.std.proofs.Common.{ℕ, ◌<◌, length, string_bytes, refl, arith}
+use Rattle.std.proofs.Common.{◌<◌, length, string_bytes, refl, arith}
 use Rattle.std.proofs.lemmas.Result.{on_ok_weaker}
 use Rattle.listing.proofs.Running.{run_goes_on, run_waits, run_ends}
 use Rattle.listing.proofs.run.list_by.Goals as goal

@@ -1,4 +1,4 @@
-use Rattle.std.proofs.Common.{ℕ, List, ◌++◌, string_bytes, refl, sym, subst, arith}
+use Rattle.std.proofs.Common.{ℕ, List, ◌++◌, string_bytes, refl, subst}
 use Rattle.listing.specs.Listing.{HasListed}
 use Rattle.listing.proofs.Listed.{fed_more, fed_all}
 use Rattle.listing.proofs.listing.Listing.feed.Goals as goal

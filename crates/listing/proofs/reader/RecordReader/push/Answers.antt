@@ -1,6 +1,6 @@
-use Rattle.std.proofs.Common.{◌≡◌, ℕ, ◌<◌, List, ap, ◌∙◌, sym, arith}
+use Rattle.std.proofs.Common.{◌≡◌, ◌<◌, ◌∙◌, sym, arith}
 use Rattle.std.specs.Prelude.{All}
-use Rattle.listing.specs.Records.{record_len, rest_of}
+use Rattle.listing.specs.Records.{rest_of}
 use Rattle.listing.proofs.Reading.{rest_of-whole, rest_of-not_whole, one_byte_more}
 use Rattle.listing.proofs.reader.RecordReader.push.Goals as goal
 use Rattle.listing.proofs.reader.RecordReader.push.Goals.{then-is_whole, else-is_whole}
