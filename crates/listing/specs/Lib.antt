@@ -1,4 +1,5 @@
 pub mod Cases
+pub mod Laws
 pub mod Line
 pub mod Listing
 pub mod Records
