@@ -1,5 +1,6 @@
 pub mod Again
 pub mod Cases
+pub mod Counts
 pub mod Decoded
 pub mod Elements
 pub mod FirstTrip

@@ -38,7 +38,7 @@ impl Stat {
         }
     }
 
-    /// List element i of a STAT with these bytes, if it has one.
+    /// List element i of a STAT with these bytes, if it has one. (Of bytes that are no STAT it says what the words there would.)
     #[tactic(auto, using(crate::proofs::Elements::elements))]
     pub fn element(bytes: &[u8], i: usize) -> Option<SeqNo>
         ensures { result ≡ option_map seq_no (slice_get (elements_of bytes.now) i) }

@@ -1,5 +1,5 @@
 use Rattle.listing.specs.Line.{k}
-use Rattle.listing.proofs.Elements.{stat_count}
+use Rattle.pdu.proofs.Counts.{stat_count}
 use Rattle.listing.proofs.line.push_line.Goals as goal
 
 pub push_stat-requires : goal.push_stat-requires
