@@ -11,17 +11,11 @@ use Rattle.end.specs.Ring.{place}
 use Rattle.end.specs.Rules.{passed, seen, mark_keeps, marks_keep, end_keeps, judged}
 use Rattle.end.specs.Ready.{IsInRange, IsReadyVr}
 use Rattle.end.proofs.Rings.{mark_at, marks_from, place_next, place_last}
-use Rattle.end.proofs.Readiness.{ready, tests}
+use Rattle.end.proofs.Readiness.{ready, vr_changed}
 use Rattle.end.specs.declared.params.Params.{Params}
 use Rattle.end.specs.declared.receiver.Receiver.{Receiver}
 use Rattle.end.specs.declared.whole.End.{End}
 use Rattle.accept.specs.Take.{first_message, take_once, taken}
-
--- an end whose receiver alone changed, and keeps the rules
-vr_changed : (e : End) (v : Receiver) → end_keeps e ≡ true → IsReadyVr e.params v → end_keeps (record e { vr = v }) ≡ true
-vr_changed e v h r =
-    let facts = ready e h in
-    tests (record e { vr = v }) (record { params = facts.params; vt = facts.vt; vr = r; running = facts.running })
 
 -- ---- take
 

@@ -1,5 +1,5 @@
 // The rules of the listing, case by case: each is fed to the library as a file in memory, at once and in pieces of several sizes, and what comes out is
-// printed. The file stdout has what the rules say; tools/listing-cases.py works it out from them alone.
+// printed. The file stdout has what the rules say; tools/cases_listing.py works it out from them alone.
 #![tactic(auto)]
 
 ghost use Rattle.std.specs.Prelude.{◌<◌};

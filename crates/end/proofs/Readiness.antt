@@ -97,3 +97,15 @@ vr_tests p v r = rw (lt-ltb v.t.0 modulus r.t, lt-ltb v.r.0 modulus r.r, lt-ltb 
 
 pub tests : (e : End) → IsReady e → end_keeps e ≡ true
 tests e r = rw (range_tests e.params r.params, vt_room_tests e.params e.vt r.vt, vr_room_tests e.params e.vr r.vr, le-leb e.running 1 r.running, vt_tests e.params e.vt r.vt, vr_tests e.params e.vr r.vr) refl
+
+-- an end whose transmitter alone changed, and keeps the rules
+pub vt_changed : (e : End) (v : Transmitter) → end_keeps e ≡ true → IsReadyVt e.params v → end_keeps (record e { vt = v }) ≡ true
+vt_changed e v h r =
+    let facts = ready e h in
+    tests (record e { vt = v }) (record { params = facts.params; vt = r; vr = facts.vr; running = facts.running })
+
+-- an end whose receiver alone changed, and keeps the rules
+pub vr_changed : (e : End) (v : Receiver) → end_keeps e ≡ true → IsReadyVr e.params v → end_keeps (record e { vr = v }) ≡ true
+vr_changed e v h r =
+    let facts = ready e h in
+    tests (record e { vr = v }) (record { params = facts.params; vt = facts.vt; vr = r; running = facts.running })

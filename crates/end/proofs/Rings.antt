@@ -75,9 +75,9 @@ first_short p v ready h =
     grind (arith, nat_tests)
 
 -- a ring keeps the rules where each of its entries does
-pub entries_from : (k waiting kept first : ℕ) (ring : List Kept) → ((slot : ℕ) (d : Kept) → slot < length ring → entry_keeps k waiting kept (place first (length ring) slot) (get_or ring slot d) ≡ true) → entries_keep k waiting kept first ring ≡ true
-entries_from k waiting kept first ring each =
-    list_all-from_AllPass (λ m. entry_keeps k waiting kept (place first (length ring) m.0) m.1) (enumerate_from 0 ring) (λ slot d h.
+pub entries_from : (k sent' kept first : ℕ) (ring : List Kept) → ((slot : ℕ) (d : Kept) → slot < length ring → entry_keeps k sent' kept (place first (length ring) slot) (get_or ring slot d) ≡ true) → entries_keep k sent' kept first ring ≡ true
+entries_from k sent' kept first ring each =
+    list_all-from_AllPass (λ m. entry_keeps k sent' kept (place first (length ring) m.0) m.1) (enumerate_from 0 ring) (λ slot d h.
     let l : slot < length ring = omega (arith, length-enumerate_from 0 ring) in
     rw (get_or-enumerate_from 0 ring slot d l, zero-add slot) (each slot d.1 l))
 

@@ -1,4 +1,4 @@
--- A ring of slots. "Message i is in slot (first + i) mod size", so the message in a slot, counted from the one in the slot `first`, is
+-- A ring of slots, where message i is in slot (first + i) mod size: the message in a slot, counted from the one in the slot `first`.
 use Rattle.std.specs.Prelude.{ℕ, ◌-◌, nat_le, if◌then◌else◌}
 
 abbrev pub place : ℕ → ℕ → ℕ → ℕ

@@ -6,7 +6,7 @@ use crate::ring::place;
 use numbers::{Counted, PollNo, SeqNo};
 
 /// The entry of a kept message.
-#[derive(Clone, Copy)]
+#[derive(Clone, Copy, Debug)]
 #[repr(C)]
 pub struct Kept {
     pub length: u32,

@@ -1,7 +1,7 @@
 -- A run over a reader and a writer: what has been read, listed and written.
 use Rattle.std.proofs.Common.{◌≡◌, ℕ, List, [], ◌++◌, Option, IfSome, sym, subst, append-nil}
 use Rattle.std.specs.Io.KnownBytes.{Keeps, Consumes, Appends, IsAtEnd}
-use Rattle.std.proofs.KnownBytes.{Consumes-nil, Consumes-trans, Consumes-kept, Consumes-whole, Appends-nil, Appends-trans}
+use Rattle.std.proofs.KnownBytes.{Consumes-trans, Consumes-kept, Consumes-whole, Appends-trans}
 use Rattle.listing.specs.Listing.{HasListed, IsListing}
 use Rattle.listing.specs.Run.{WritesListing}
 use Rattle.listing.specs.declared.listing.Listing.{Listing}
@@ -14,9 +14,6 @@ pub record HasRun (first left start holds : Option (List ℕ)) (listing : Listin
   pub written : Appends start holds printed
   pub listed : HasListed fed listing printed
   pub sent : text ≡ []
-
-pub run_begins : (first start : Option (List ℕ)) (listing : Listing) (text : List ℕ) → HasListed [] listing [] → text ≡ [] → HasRun first first start start listing text
-run_begins first start listing text h e = record { fed = []; printed = []; read = Consumes-nil first; written = Appends-nil start; listed = h; sent = e }
 
 module _ {first left start holds : Option (List ℕ)} {listing : Listing} {text : List ℕ} (h : HasRun first left start holds listing text) where
   -- nothing is in the text that is not written

@@ -13,7 +13,7 @@ ahead m p q = (p + (m - q % m)) % m
 abbrev pub signed : ℕ → ℕ → ℤ
 signed m d = if nat_lt d (m / 2) then pos d else pos d -ℤ pos m
 
--- "The age of a stamp is a signed distance from the stamp to a poll number, modulo m."
+-- the age of a stamp: a signed distance from the stamp to a poll number, modulo m
 unfoldable pub age : ℕ → ℕ → ℕ → ℤ
 age m stamp poll = signed m (ahead m poll stamp)
 

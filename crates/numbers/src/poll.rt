@@ -6,6 +6,7 @@ use crate::{Counted, MODULUS};
 
 /// The number of a poll, and the stamp that a message takes from one.
 #[derive(Clone, Copy, Debug)]
+#[repr(C)]
 pub struct PollNo(pub u32);
 
 // As `SeqNo`'s impl but for the type; seq.rt says why both are written out, and why there is no `==`.

@@ -6,6 +6,7 @@ use crate::{Counted, MODULUS};
 /// The number of an SD.
 // No `==`, no order and no `Hash`: they would compare the words inside, and the words 0 and 2^24 count alike.
 #[derive(Clone, Copy, Debug)]
+#[repr(C)]
 pub struct SeqNo(pub u32);
 
 // Written out here and for `PollNo`: the two are types of their own, since an SD number is never compared with a poll number, a constant with a

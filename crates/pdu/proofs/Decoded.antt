@@ -2,7 +2,7 @@
 use Rattle.std.proofs.Common.{◌≡◌, ℕ, ◌+◌, ◌-◌, ◌*◌, ◌/◌, ◌%◌, ◌^◌, ◌<◌, ◌≤◌, List, [], ◌∷◌, ◌++◌, length, get_or, sym, ap, ◌∙◌, refl, arith, le-ltb, le-leb, eq-eqb, zero, suc, replicate, add-zero, length-append, append_assoc, add_assoc}
 use Rattle.std.proofs.lemmas.List.FromFn.{fill_by_all}
 use Rattle.pdu.proofs.Lists.{length_list, length_stat}
-use Rattle.std.proofs.lemmas.List.{get_or-append-add, get_or_append_left, length-replicate}
+use Rattle.std.proofs.lemmas.List.{get_or-append-add, length-replicate}
 use Rattle.std.specs.Prelude.{All}
 use Rattle.std.specs.List.{flat_map}
 use Rattle.numbers.specs.Numbers.{modulus, seq_no, poll_no}
@@ -61,10 +61,6 @@ decode-sd k s information hk hs h =
 pub decode_stat_of : (k : ℕ) (bs : List ℕ) → k ≤ 4096 → 12 ≤ length bs → length bs % 4 ≡ 0 → get_or bs (length bs - 4) 0 % 16 ≡ 11 → decode_of k bs ≡ Pdu.Stat (read_stat bs)
 unfolding decode_of
 decode_stat_of k bs hk h hm ht = rw (le-ltb 4096 k hk, le-ltb (length bs) 4 (omega arith), eq-eqb _ _ hm, ht, le-leb 12 (length bs) h) refl
-
--- a number within xs is there in xs ++ ys too
-pub number_within : (xs ys : List ℕ) (i : ℕ) → i + 4 ≤ length xs → number_at (xs ++ ys) i ≡ number_at xs i
-number_within xs ys i h = rw (get_or_append_left xs ys 0 (i + 1) (omega arith), get_or_append_left xs ys 0 (i + 2) (omega arith), get_or_append_left xs ys 0 (i + 3) (omega arith)) refl
 
 pub number_behind_word : (xs ys : List ℕ) (i : ℕ) → number_at (xs ++ ys) (length xs + i) ≡ number_at ys i
 number_behind_word xs ys i = rw (add_assoc (length xs) i 1, add_assoc (length xs) i 2, add_assoc (length xs) i 3, get_or-append-add xs ys (i + 1) 0, get_or-append-add xs ys (i + 2) 0, get_or-append-add xs ys (i + 3) 0) refl

@@ -23,7 +23,7 @@ Same k v bs = (again k v bs ≡ Ok bs) ↔ IsClean v bs
 same_refused : (k : ℕ) (e : Refusal) (bs : List ℕ) → Same k (Pdu.Refused e) bs
 same_refused k e bs = (λ q. cc, λ b. absurd b)
 
-accepted_sd : (k s : ℕ) (information : List ℕ) → k ≤ 4096 → s < modulus → length information ≤ k → refused_sd k s information ≡ None
+pub accepted_sd : (k s : ℕ) (information : List ℕ) → k ≤ 4096 → s < modulus → length information ≤ k → refused_sd k s information ≡ None
 accepted_sd k s information a b d = rw (le-ltb 4096 k a, lt-ltb s modulus b, le-ltb k (length information) d) refl
 
 same_sd : (k l : ℕ) (bs : List ℕ) → All (λ b. b < 256) bs → k ≤ 4096 → 4 ≤ length bs → length bs % 4 ≡ 0 → get_or bs (length bs - 4) 0 % 16 ≡ 8 → get_or bs (length bs - 4) 0 / 64 + l ≡ length bs - 4 → l ≤ k → Same k (Pdu.Sd (record { s = seq_no (number_at bs (length bs - 4)); length = l })) bs

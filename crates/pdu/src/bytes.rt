@@ -3,7 +3,7 @@ ghost use Rattle.std.specs.Prelude.{◌≡◌, ◌+◌, ◌<◌, ◌≤◌, ◌^
 ghost use Rattle.pdu.specs.Layout.{number_at, word, write_at};
 
 // The number in the word that begins at byte `at`.
-pub fn number(bytes: &[u8], at: usize) -> u32
+pub(crate) fn number(bytes: &[u8], at: usize) -> u32
     requires { at + 4 ≤ length bytes.now }
     ensures { result ≡ number_at bytes.now at }
 {
@@ -11,7 +11,7 @@ pub fn number(bytes: &[u8], at: usize) -> u32
 }
 
 // Writes the word with this first byte and this number to the bytes from `at`.
-pub fn put(out: &mut [u8], at: usize, first: u8, number: u32)
+pub(crate) fn put(out: &mut [u8], at: usize, first: u8, number: u32)
     requires room { at + 4 ≤ length out.old }
     requires fits { number < 2 ^ 24 }
     ensures { out.new ≡ write_at at (word first number) out.old }

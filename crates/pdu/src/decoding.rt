@@ -4,7 +4,7 @@ ghost use Rattle.pdu.specs.Decoding.{decode_of};
 use crate::{Poll, Refusal, Sd, Stat, Ustat};
 
 /// What a byte string says: a PDU of one of the four kinds, or why it is none (answers 1 to 3, and 17 for k).
-#[derive(Clone, Copy)]
+#[derive(Clone, Copy, Debug)]
 pub enum Pdu {
     Sd(Sd),
     Poll(Poll),

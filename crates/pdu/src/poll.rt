@@ -8,7 +8,7 @@ use crate::bytes::{number, put};
 use numbers::{Counted, PollNo, SeqNo};
 
 /// POLL: N(PS) and N(S).
-#[derive(Clone, Copy)]
+#[derive(Clone, Copy, Debug)]
 pub struct Poll {
     pub ps: PollNo,
     pub s: SeqNo,

@@ -8,7 +8,7 @@ use crate::bytes::{number, put};
 use numbers::{Counted, SeqNo};
 
 /// SD: N(S), and how many bytes of information stand before it.
-#[derive(Clone, Copy)]
+#[derive(Clone, Copy, Debug)]
 pub struct Sd {
     pub s: SeqNo,
     pub length: usize,

@@ -11,7 +11,7 @@ use crate::bytes::{number, put};
 use numbers::{Counted, PollNo, SeqNo};
 
 /// STAT: N(PS), N(MR), N(R), and how many list elements stand in its bytes.
-#[derive(Clone, Copy)]
+#[derive(Clone, Copy, Debug)]
 pub struct Stat {
     pub ps: PollNo,
     pub mr: SeqNo,

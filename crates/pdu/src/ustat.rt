@@ -8,7 +8,7 @@ use crate::bytes::{number, put};
 use numbers::{Counted, SeqNo};
 
 /// USTAT: its two list elements, N(MR) and N(R).
-#[derive(Clone, Copy)]
+#[derive(Clone, Copy, Debug)]
 pub struct Ustat {
     pub first: SeqNo,
     pub second: SeqNo,

@@ -15,7 +15,7 @@ use Rattle.end.specs.Rules.{sent, outstanding, entry_keeps, entries_keep, end_ke
 use Rattle.end.specs.Ready.{IsInRange, IsReadyVt}
 use Rattle.end.proofs.Rings.{entry_at, entries_from, place-onward, onward-place, place-lt}
 use Rattle.end.proofs.Slots.{slot_room}
-use Rattle.end.proofs.Readiness.{ready, tests}
+use Rattle.end.proofs.Readiness.{ready, vt_changed}
 use Rattle.end.specs.declared.params.Params.{Params}
 use Rattle.end.specs.declared.transmitter.Kept.{Kept}
 use Rattle.end.specs.declared.transmitter.Transmitter.{Transmitter}
@@ -102,12 +102,6 @@ submit_vt p message v params ready free short = record {
       (λ j e l n rule. grind (arith, nat_tests))
       (λ e rule. let before = ready.sent_kept in grind (arith, nat_tests));
 }
-
--- an end whose transmitter alone changed, and keeps the rules
-vt_changed : (e : End) (v : Transmitter) → end_keeps e ≡ true → IsReadyVt e.params v → end_keeps (record e { vt = v }) ≡ true
-vt_changed e v h r =
-    let facts = ready e h in
-    tests (record e { vt = v }) (record { params = facts.params; vt = r; vr = facts.vr; running = facts.running })
 
 pub submit_keeps : (e : End) (message : List ℕ) → end_keeps e ≡ true → end_keeps (submitted e message) ≡ true
 submit_keeps e message h = go (cases_eq e.running 0) (cases_lt e.params.longest (length message)) (cases_eq e.vt.kept e.params.keep)

@@ -66,7 +66,7 @@ fn message<'a>(v: &'a Transmitter, p: Params, i: u32) -> &'a [u8]
 }
 
 // Writes the SD of this number, which is in range, with information of at most k bytes.
-#[tactic(auto, using(crate::proofs::InRange::sd_taken))]
+#[tactic(auto, using(pdu::proofs::RoundTrip::accepted_sd))]
 fn write_sd(k: u32, s: SeqNo, information: &[u8], out: &mut [u8]) -> Result<usize, Refusal>
     requires k { k ≤ 4096 }
     requires s { s.0 < modulus }

@@ -7,7 +7,7 @@ use end::Kept;
 use numbers::PollNo;
 
 // Writes a message to the store, from byte `at` on.
-pub fn put_message(bytes: &mut [u8], at: usize, message: &[u8])
+pub(crate) fn put_message(bytes: &mut [u8], at: usize, message: &[u8])
     requires { at + length message.now ≤ length bytes.old }
     ensures { bytes.new ≡ write_at at message.now bytes.old }
 {
@@ -16,7 +16,7 @@ pub fn put_message(bytes: &mut [u8], at: usize, message: &[u8])
 
 // The entry in this slot is of a message of n bytes.
 #[tactic(auto, using(crate::proofs::Stores::changes))]
-pub fn put_length(entries: &mut [Kept], slot: usize, n: u32)
+pub(crate) fn put_length(entries: &mut [Kept], slot: usize, n: u32)
     requires { slot < length entries.old }
     ensures { entries.new ≡ change_at (with_length n) slot entries.old }
 {
@@ -25,7 +25,7 @@ pub fn put_length(entries: &mut [Kept], slot: usize, n: u32)
 
 // The message in this slot is sent with this stamp, and no longer waits.
 #[tactic(auto, using(crate::proofs::Stores::changes))]
-pub fn put_stamp(entries: &mut [Kept], slot: usize, ps: PollNo)
+pub(crate) fn put_stamp(entries: &mut [Kept], slot: usize, ps: PollNo)
     requires { slot < length entries.old }
     ensures { entries.new ≡ change_at (stamped ps) slot entries.old }
 {
