@@ -73,45 +73,11 @@ fn first_of(output: &mut [u8], room: usize) -> &mut [u8] {
     &mut output[..room]
 }
 
+#[derive(Drop)]
 pub struct Bench<'a, R> {
     rt: &'a R,
     end: End<'a>,
     watch: Watch,
-}
-
-impl<R> Drop for Bench<'_, R> {
-    fn drop(self) {
-        let Bench {
-            rt: _,
-            end: End {
-                params: _,
-                running: _,
-                vt: Transmitter {
-                    s: _,
-                    a: _,
-                    ms: _,
-                    ps: _,
-                    pa: _,
-                    pd: _,
-                    kept: _,
-                    first: _,
-                    entries: _,
-                    bytes: _,
-                },
-                vr: Receiver {
-                    t: _,
-                    r: _,
-                    h: _,
-                    mr: _,
-                    head: _,
-                    marks: _,
-                    lengths: _,
-                    bytes: _,
-                },
-            },
-            watch: _,
-        } = self;
-    }
 }
 
 impl<'a, R: Print> Bench<'a, R> {

@@ -6,6 +6,7 @@ use crate::ring::place;
 use numbers::{Counted, SeqNo};
 
 /// The receiver: its variables, and its store of received messages.
+#[derive(Drop)]
 pub struct Receiver<'a> {
     /// T, the next number to take.
     pub t: SeqNo,

@@ -30,6 +30,7 @@ impl Kept {
 }
 
 /// The transmitter: its variables, and its store of kept messages.
+#[derive(Drop)]
 pub struct Transmitter<'a> {
     pub s: SeqNo,
     pub a: SeqNo,

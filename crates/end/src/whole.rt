@@ -6,6 +6,7 @@ use crate::{Params, Receiver, Transmitter};
 use pdu::Refusal;
 
 /// One end of a connection, with the memory that is lent to it.
+#[derive(Drop)]
 pub struct End<'a> {
     pub params: Params,
     /// 1 while the connection runs, and 0 when it has stopped.
