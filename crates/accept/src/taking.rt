@@ -4,7 +4,6 @@ ghost use Rattle.end.specs.Rules.{passed};
 ghost use Rattle.accept.specs.Take.{first_message, take_once, take_answer, taken, take_output};
 
 use end::{End, Params, Receiver, slot_of};
-use numbers::Counted;
 use pdu::Refusal;
 
 // The bytes of message T.

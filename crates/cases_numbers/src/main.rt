@@ -23,38 +23,60 @@ fn yes_no(b: bool) -> &'static str {
     if b { "yes" } else { "no" }
 }
 
+// Each word of a line is a write of its own, so that where a write fails the words before it stand.
+fn print_word(rt: &impl Print, word: impl fmt::Display + Drop) -> io::Result<()> {
+    print!(rt; " {word}")
+}
+
 fn print_ahead(rt: &impl Print, p: u32, q: u32) -> io::Result<()> {
-    let sd = SeqNo(p).ahead(SeqNo(q));
-    let poll = PollNo(p).ahead(PollNo(q));
-    println!(rt; "ahead {p} {q}: {sd} {poll}")
+    print!(rt; "ahead")?;
+    print_word(rt, p)?;
+    print_word(rt, q)?;
+    print!(rt; ":")?;
+    print_word(rt, SeqNo(p).ahead(SeqNo(q)))?;
+    print_word(rt, PollNo(p).ahead(PollNo(q)))?;
+    println!(rt)
 }
 
 fn print_onward(rt: &impl Print, p: u32, d: u32) -> io::Result<()> {
-    let sd = SeqNo(p).onward(d).0;
-    let poll = PollNo(p).onward(d).0;
-    println!(rt; "onward {p} {d}: {sd} {poll}")
+    print!(rt; "onward")?;
+    print_word(rt, p)?;
+    print_word(rt, d)?;
+    print!(rt; ":")?;
+    print_word(rt, SeqNo(p).onward(d).0)?;
+    print_word(rt, PollNo(p).onward(d).0)?;
+    println!(rt)
 }
 
 fn print_next(rt: &impl Print, p: u32) -> io::Result<()> {
-    let sd = SeqNo(p).next().0;
-    let poll = PollNo(p).next().0;
-    println!(rt; "next {p}: {sd} {poll}")
+    print!(rt; "next")?;
+    print_word(rt, p)?;
+    print!(rt; ":")?;
+    print_word(rt, SeqNo(p).next().0)?;
+    print_word(rt, PollNo(p).next().0)?;
+    println!(rt)
 }
 
 fn print_age(rt: &impl Print, stamp: u32, poll: u32, want: i32) -> io::Result<()> {
-    let as_wanted = yes_no(PollNo(stamp).age(PollNo(poll)) == want);
-    let older = yes_no(PollNo(stamp).older(PollNo(poll)));
-    println!(rt; "age {stamp} {poll} {want}: {as_wanted} {older}")
+    print!(rt; "age")?;
+    print_word(rt, stamp)?;
+    print_word(rt, poll)?;
+    print_word(rt, want)?;
+    print!(rt; ":")?;
+    print_word(rt, yes_no(PollNo(stamp).age(PollNo(poll)) == want))?;
+    print_word(rt, yes_no(PollNo(stamp).older(PollNo(poll))))?;
+    println!(rt)
 }
 
 fn print_new(rt: &impl Print, n: u32) -> io::Result<()> {
-    let sd = yes_no(SeqNo(n).in_range());
-    let poll = yes_no(PollNo(n).in_range());
-    println!(rt;
-        "new {n}: {sd} {poll} {} {}",
-        NumberOrTooLarge(SeqNo::new(n)),
-        NumberOrTooLarge(PollNo::new(n))
-    )
+    print!(rt; "new")?;
+    print_word(rt, n)?;
+    print!(rt; ":")?;
+    print_word(rt, yes_no(SeqNo(n).in_range()))?;
+    print_word(rt, yes_no(PollNo(n).in_range()))?;
+    print_word(rt, NumberOrTooLarge(SeqNo::new(n)))?;
+    print_word(rt, NumberOrTooLarge(PollNo::new(n)))?;
+    println!(rt)
 }
 
 fn main(rt: HostRuntime) -> io::Result<()> {

@@ -3,7 +3,7 @@ ghost use Rattle.end.specs.Rules.{passed, seen, mark_keeps, marks_keep, vr_count
 
 use crate::Params;
 use crate::ring::place;
-use numbers::{Counted, SeqNo};
+use numbers::SeqNo;
 
 /// The receiver: its variables, and its store of received messages.
 #[derive(Drop)]

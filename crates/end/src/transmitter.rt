@@ -3,7 +3,7 @@ ghost use Rattle.end.specs.Rules.{sent, outstanding, entry_keeps, entries_keep, 
 
 use crate::Params;
 use crate::ring::place;
-use numbers::{Counted, PollNo, SeqNo};
+use numbers::{PollNo, SeqNo};
 
 /// The entry of a kept message.
 #[derive(Clone, Copy, Debug)]

@@ -5,7 +5,7 @@ ghost use Rattle.pdu.specs.Encoding.{encoded, written};
 ghost use Rattle.transmit.specs.Polling.{poll_answer, polled, poll_output};
 
 use end::{End, Transmitter};
-use numbers::{Counted, PollNo, SeqNo};
+use numbers::{PollNo, SeqNo};
 use pdu::{Refusal, encode_poll};
 
 // Writes the POLL of these numbers, which are in range.

@@ -8,7 +8,7 @@ ghost use Rattle.transmit.specs.Sending.{waits as waits_of, lowest_waiting as lo
 
 use crate::store::put_stamp;
 use end::{End, Params, Transmitter, slot_of};
-use numbers::{Counted, SeqNo};
+use numbers::SeqNo;
 use pdu::{Refusal, encode_sd};
 
 // Message i from VT(A) waits to be resent.
